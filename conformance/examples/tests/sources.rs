@@ -1,0 +1,139 @@
+//! Every example of the sources against the evaluator, and the list in
+//! docs/EXAMPLES.md against the rows.
+
+use std::collections::BTreeSet;
+
+use examples::{Decision, Example, Expected, LineKind, Matched, Normalised, Question};
+
+/// How many rows each data file has.
+const COUNTS: [(&str, usize); 4] = [
+    ("000-002.txt", 81),
+    ("001.txt", 123),
+    ("003.txt", 49),
+    ("004.txt", 36),
+];
+
+/// More than any normalised path: 6,142 octets and a tail.
+const BUFFER: usize = 6_200;
+const UNTOUCHED: u8 = 0xA5;
+
+fn rows() -> Vec<Example> {
+    examples::all().unwrap_or_else(|fault| panic!("{fault}"))
+}
+
+fn list() -> String {
+    let path = concat!(env!("CARGO_MANIFEST_DIR"), "/../../docs/EXAMPLES.md");
+    std::fs::read_to_string(path).expect("docs/EXAMPLES.md can be read")
+}
+
+fn decide(file: &[u8], name: &[u8], path: &[u8]) -> Expected {
+    let got = evaluator::decide(file, name, path);
+    Expected::Decide(Decision {
+        refusal: got.refusal,
+        disallow: got.disallow,
+        line: got.line,
+        place: got.place,
+        length: got.length,
+        unread: got.unread,
+        compared: got.compared,
+    })
+}
+
+fn match_pattern(pattern: &[u8], path: &[u8]) -> Expected {
+    let got = evaluator::match_pattern(pattern, path);
+    Expected::Match(Matched {
+        refusal: got.refusal,
+        found: got.found,
+        compared: got.compared,
+    })
+}
+
+fn normalise(path: &[u8]) -> Expected {
+    let mut buffer = [UNTOUCHED; BUFFER];
+    let got = evaluator::normalise(path, &mut buffer);
+    let (front, tail) = buffer.split_at(got.written);
+    assert!(tail.iter().all(|&b| b == UNTOUCHED), "the tail was written");
+    Expected::Normalise(Normalised {
+        refusal: got.refusal,
+        octets: front.to_vec(),
+    })
+}
+
+fn line_kind(line: &[u8]) -> Expected {
+    let got = evaluator::line_kind(line);
+    Expected::Line(LineKind {
+        refusal: got.refusal,
+        kind: got.kind,
+        place: got.place,
+        length: got.length,
+    })
+}
+
+fn ask(question: &Question) -> Expected {
+    match question {
+        Question::Decide { file, name, path } => decide(file, name, path),
+        Question::Match { pattern, path } => match_pattern(pattern, path),
+        Question::Normalise { path } => normalise(path),
+        Question::Line { line } => line_kind(line),
+    }
+}
+
+fn difference(row: &Example) -> Option<String> {
+    let got = ask(&row.question);
+    (got != row.expected).then(|| {
+        format!(
+            "{} ({}:{}, {})\n  document 01: {:?}\n  evaluator:   {:?}",
+            row.id, row.source, row.row, row.place, row.expected, got
+        )
+    })
+}
+
+#[test]
+fn every_row_is_answered_as_document_01_says() {
+    let wrong: Vec<String> = rows().iter().filter_map(difference).collect();
+    assert!(wrong.is_empty(), "{}", wrong.join("\n"));
+}
+
+#[test]
+fn no_row_is_skipped() {
+    let rows = rows();
+    for (file, count) in COUNTS {
+        let read = rows.iter().filter(|row| row.source == file).count();
+        assert_eq!(read, count, "{file}");
+    }
+    let total: usize = COUNTS.iter().map(|(_, count)| count).sum();
+    assert_eq!(rows.len(), total);
+}
+
+#[test]
+fn each_row_stands_in_its_own_source() {
+    for row in rows() {
+        assert_eq!(row.id[..3], row.source[..3], "{}", row.id);
+        assert!(row.place.starts_with(&row.source[..3]), "{}", row.id);
+    }
+}
+
+#[test]
+fn the_list_names_exactly_the_rows_decided_against() {
+    let list = list();
+    let parts = list.split(|c: char| !c.is_ascii_alphanumeric() && c != '-');
+    let listed: BTreeSet<&str> = parts.filter(|part| examples::is_id(part)).collect();
+    let rows = rows();
+    let against = rows.iter().filter(|row| row.decided_against());
+    let against: BTreeSet<&str> = against.map(|row| row.id.as_str()).collect();
+    assert_eq!(listed, against);
+}
+
+#[test]
+fn the_list_gives_the_counts() {
+    let list = list();
+    let rows = rows();
+    for (file, count) in COUNTS {
+        let of_file = rows.iter().filter(|row| row.source == file);
+        let against = of_file.filter(|row| row.decided_against()).count();
+        let start = format!("| `{file}` |");
+        let end = format!("| {count} | {against} |");
+        let told = |line: &str| line.starts_with(&start) && line.ends_with(&end);
+        assert!(list.lines().any(told), "{start} ... {end}");
+    }
+}

@@ -1,0 +1,174 @@
+//! Questions about robots.txt files, for checking one evaluator against
+//! another.
+//!
+//! For each of the four questions and for the program there are two sources:
+//!
+//! - `..._edges()` gives cases that are written down: sizes just inside and
+//!   just outside every limit, refusals in every order, every octet;
+//! - `..._cases(seed, count)` gives generated cases, valid and damaged. Case
+//!   `i` depends on the seed and on `i` only; the same seed gives the same
+//!   cases everywhere.
+//!
+//! A case holds a question and no answer.
+
+mod edges;
+mod files;
+mod patterns;
+mod random;
+mod text;
+
+pub use edges::{decide_edges, line_edges, match_edges, normalise_edges, program_edges};
+
+use files::Setting;
+use patterns::{normal_length, path, pattern, theme};
+use random::Random;
+use text::{any_octets, name, MARK};
+
+/// The seed that the tests use.
+pub const SEED: u64 = 9_309;
+
+/// A question for deciding.
+#[derive(Debug, Clone, PartialEq, Eq)]
+pub struct DecideCase {
+    pub file: Vec<u8>,
+    pub name: Vec<u8>,
+    pub path: Vec<u8>,
+}
+
+/// A question for matching.
+#[derive(Debug, Clone, PartialEq, Eq)]
+pub struct MatchCase {
+    pub pattern: Vec<u8>,
+    pub path: Vec<u8>,
+}
+
+/// A question for normalising, with the octets of the buffer to lend.
+#[derive(Debug, Clone, PartialEq, Eq)]
+pub struct NormaliseCase {
+    pub path: Vec<u8>,
+    pub room: usize,
+}
+
+/// A question for the kind of a line.
+#[derive(Debug, Clone, PartialEq, Eq)]
+pub struct LineCase {
+    pub line: Vec<u8>,
+}
+
+/// An input for the program.
+#[derive(Debug, Clone, PartialEq, Eq)]
+pub struct ProgramCase {
+    pub input: Vec<u8>,
+}
+
+const DECIDE: u64 = 1;
+const MATCH: u64 = 2;
+const NORMALISE: u64 = 3;
+const LINE: u64 = 4;
+const PROGRAM: u64 = 5;
+
+/// Draws `count` cases of one sort.
+fn drawn<T>(
+    seed: u64,
+    sort: u64,
+    count: usize,
+    draw: impl Fn(&mut Random) -> T,
+) -> impl Iterator<Item = T> {
+    (0..count).map(move |index| draw(&mut Random::for_case(seed, sort, index)))
+}
+
+/// Generated questions for deciding. The path is mostly made from the file's
+/// patterns, and the file often names the crawler.
+pub fn decide_cases(seed: u64, count: usize) -> impl Iterator<Item = DecideCase> {
+    drawn(seed, DECIDE, count, decide_case)
+}
+
+/// Generated questions for matching.
+pub fn match_cases(seed: u64, count: usize) -> impl Iterator<Item = MatchCase> {
+    drawn(seed, MATCH, count, match_case)
+}
+
+/// Generated questions for normalising. The room is often the normalised
+/// length or one less.
+pub fn normalise_cases(seed: u64, count: usize) -> impl Iterator<Item = NormaliseCase> {
+    drawn(seed, NORMALISE, count, normalise_case)
+}
+
+/// Generated questions for the kind of a line.
+pub fn line_cases(seed: u64, count: usize) -> impl Iterator<Item = LineCase> {
+    drawn(seed, LINE, count, line_case)
+}
+
+/// Generated inputs for the program.
+pub fn program_cases(seed: u64, count: usize) -> impl Iterator<Item = ProgramCase> {
+    drawn(seed, PROGRAM, count, program_case)
+}
+
+fn decide_case(random: &mut Random) -> DecideCase {
+    let name = name(random);
+    let mut setting = Setting::new(random, &name);
+    let file = setting.file(random);
+    let path = path(random, &setting.theme, &setting.patterns);
+    DecideCase { file, name, path }
+}
+
+fn match_case(random: &mut Random) -> MatchCase {
+    let theme = theme(random);
+    let mut patterns = vec![pattern(random, &theme)];
+    let path = path(random, &theme, &patterns);
+    let pattern = match random.below(30) {
+        0 => any_octets(random, 10),
+        _ => patterns.remove(0),
+    };
+    MatchCase { pattern, path }
+}
+
+fn normalise_case(random: &mut Random) -> NormaliseCase {
+    let theme = theme(random);
+    let patterns = [pattern(random, &theme)];
+    let path = path(random, &theme, &patterns);
+    let normal = normal_length(&path);
+    let room = match random.below(8) {
+        0..=2 => normal,
+        3 => normal.saturating_sub(1),
+        4 => random.below(normal + 1),
+        _ => normal + random.below(20),
+    };
+    NormaliseCase { path, room }
+}
+
+fn line_case(random: &mut Random) -> LineCase {
+    let name = name(random);
+    let mut setting = Setting::new(random, &name);
+    let mut line = setting.line(random);
+    match random.below(40) {
+        0 => {
+            line.splice(0..0, MARK.iter().copied());
+        }
+        1 => {
+            let at = random.below(line.len() + 1);
+            line.insert(at, random.octet_of(b"\r\n"));
+        }
+        2..=4 => {
+            let at = random.below(line.len() + 1);
+            line.insert(at, random.octet());
+        }
+        _ => {}
+    }
+    LineCase { line }
+}
+
+fn program_case(random: &mut Random) -> ProgramCase {
+    let case = decide_case(random);
+    let ending: &[u8] = match random.below(30) {
+        0 => b"\r\n",
+        1 => b"\r",
+        _ => b"\n",
+    };
+    let mut input = [&case.name, ending, &case.path, b"\n", &case.file].concat();
+    if random.one_in(30) {
+        let length = random.below(input.len() + 1);
+        input.truncate(length);
+    }
+    ProgramCase { input }
+}

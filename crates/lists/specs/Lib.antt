@@ -1,0 +1,4 @@
+pub mod Choice
+pub mod Each
+pub mod Lists
+pub mod Occurs

@@ -1,0 +1,6 @@
+pub mod Computing
+pub mod Examples
+pub mod FrontToBack
+pub mod Values
+pub mod Inside
+pub mod Sizes

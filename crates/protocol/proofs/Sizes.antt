@@ -1,0 +1,69 @@
+-- How long a normalised path and a pattern's weight can be. Assumes nothing.
+use Prim.Native.Nat.{ℕ, zero, suc, _+_, _*_, _≤_}
+use Prim.Native.Char.{code}
+use mathlib.Core.Path.{_≡_, refl, sym, ap, _∙_}
+use mathlib.Core.Bool.{Bool, true, false, _||_, false≢true}
+use mathlib.Core.List.{List, [], _∷_, _++_, dropLast}
+use native.Mathlib.Omega.{arith}
+use lib.Dec.{leb, eqb}
+use lib.ListN.{length, length-append}
+use borrow.Author.Tests.{eqb-true}
+use Rattle.lists.specs.Choice.{if_then_else_}
+use Rattle.lists.proofs.Bools.{split}
+use Rattle.protocol.specs.Octets.{is, unreserved}
+use Rattle.protocol.specs.Text.{begins, ends}
+use Rattle.protocol.specs.Normal.{encoded, meant, escape, isEscape, escapeAt, special, plain, piece, normal, normalPath}
+use Rattle.protocol.specs.Pattern.{Shape, shapeOf, weight}
+
+escape-size : (l : List ℕ) → length (escapeAt l) ≤ 3
+unfolding escapeAt escape
+escape-size [] = omega arith
+escape-size (d ∷ []) = omega arith
+escape-size (d ∷ e ∷ l) = split (unreserved (meant d e)) (λ h. rw h (omega arith)) (λ h. rw h (omega arith))
+
+plain-size : (stars : Bool) (c : ℕ) → length (plain stars c) ≤ 3
+unfolding plain encoded
+plain-size stars c =
+    split (is "%" c || leb 0x7F c || special stars c) (λ h. rw h (omega arith)) (λ h. rw h (omega arith))
+
+piece-size : (stars : Bool) (c : ℕ) (l : List ℕ) → length (piece stars c l) ≤ 3
+unfolding piece
+piece-size stars c l = split (isEscape c l) (λ h. rw h (escape-size l)) (λ h. rw h (plain-size stars c))
+
+-- three octets for each
+pub normal-size : (stars : Bool) (n : ℕ) (l : List ℕ) → length (normal stars n l) ≤ 3 * length l
+unfolding normal
+normal-size stars n [] = omega arith
+normal-size stars zero (c ∷ l) =
+    let n : ℕ = if isEscape c l then 2 else 0 in
+    omega (arith, length-append (piece stars c l) (normal stars n l), piece-size stars c l, normal-size stars n l)
+normal-size stars (suc n) (c ∷ l) = omega (arith, normal-size stars n l)
+
+slash-plain : (l : List ℕ) → isEscape (code "/") l ≡ false
+unfolding isEscape
+slash-plain [] = refl
+slash-plain (d ∷ []) = refl
+slash-plain (d ∷ e ∷ l) = refl
+
+-- A path that begins with "/" has at most three times its octets, less two: the "/" is one octet.
+pub path-size : (path : List ℕ) → begins "/" path ≡ true → length (normalPath path) + 2 ≤ 3 * length path
+unfolding begins normalPath normal piece plain special
+path-size [] h = absurd (false≢true h)
+path-size (c ∷ l) h = rw (eqb-true c (code "/") h, slash-plain l) (omega (arith, normal-size false 0 l))
+
+-- "a 2,048-octet path (at most 6,142 normalised)"
+pub path-limit : (path : List ℕ) → begins "/" path ≡ true → length path ≤ 2_048 → length (normalPath path) ≤ 6_142
+path-limit path h k = omega (arith, path-size path h)
+
+last-gone : (l : List ℕ) → ends "$" l ≡ true → length (dropLast l) + 1 ≡ length l
+unfolding ends
+last-gone [] h = absurd (false≢true h)
+last-gone (c ∷ []) h = omega arith
+last-gone (c ∷ d ∷ l) h = omega (arith, last-gone (d ∷ l) h)
+
+-- A pattern weighs at most three times its raw octets.
+pub weight-size : (raw : List ℕ) → weight (shapeOf raw) ≤ 3 * length raw
+unfolding weight shapeOf
+weight-size raw =
+    split (ends "$" raw) (λ h. rw h (omega (arith, normal-size true 0 (dropLast raw), last-gone raw h)))
+    (λ h. rw h (omega (arith, normal-size true 0 raw)))

@@ -1,0 +1,113 @@
+-- "What a caller may ask": the answer to each question, for every input, with its refused form. Assumes nothing.
+use Prim.Native.Nat.{ℕ, zero, suc}
+use mathlib.Core.Bool.{Bool, false}
+use mathlib.Core.List.{List, [], _∷_, _++_}
+use lib.ListN.{length, drop}
+use Rattle.protocol.specs.declared.Place.{Place}
+use Rattle.protocol.specs.declared.Side.{Side}
+use Rattle.protocol.specs.declared.Agent.{Agent}
+use Rattle.protocol.specs.declared.Pattern.{Pattern}
+use Rattle.protocol.specs.declared.Kind.{Kind}
+use Rattle.protocol.specs.declared.Walked.{Walked}
+use Rattle.protocol.specs.declared.Decision.{Decision}
+use Rattle.protocol.specs.declared.Matched.{Matched}
+use Rattle.protocol.specs.declared.Normalised.{Normalised}
+use Rattle.protocol.specs.declared.LineAnswer.{LineAnswer}
+use Rattle.protocol.specs.Lines.{lineNumber, placeAt}
+use Rattle.protocol.specs.Kinds.{kindOf, placeOf, lengthOf}
+use Rattle.protocol.specs.Entries.{entries}
+use Rattle.protocol.specs.Normal.{normalPath}
+use Rattle.protocol.specs.Pattern.{shapeOf}
+use Rattle.protocol.specs.Walk.{walk}
+use Rattle.protocol.specs.Refusals.{decideRefusal, matchRefusal, normaliseRefusal, lineRefusal}
+use Rattle.protocol.specs.Decision.{answered}
+
+-- "A refused decision holds its number, disallow, and zeros"
+unfoldable pub refusedDecision : ℕ → Decision
+refusedDecision n =
+    record {
+      refusal = n;
+      side = Side.Disallow;
+      line = lineNumber 0;
+      place = placeAt 0;
+      length = 0;
+      unread = 0;
+      compared = 0;
+    }
+
+-- "Decide: file, name, path"
+unfoldable pub unlessRefused : ℕ → Decision → Decision
+unlessRefused zero d = d
+unlessRefused (suc n) d = refusedDecision (suc n)
+
+unfoldable pub decide : List ℕ → List ℕ → List ℕ → Decision
+decide file name path =
+    unlessRefused (decideRefusal file name path) (answered file (entries file) name (normalPath path))
+
+-- "allow or disallow (0 or 1 where a number is wanted)"
+unfoldable pub sideNumber : Side → ℕ
+sideNumber Side.Allow = 0
+sideNumber Side.Disallow = 1
+
+-- "Match one pattern against one path: yes or no, with the count of that walk." "A refused match is "no" with count 0"
+unfoldable pub matchBy : ℕ → Walked → Matched
+matchBy zero w = record { refusal = 0; found = w .stood; compared = w .count }
+matchBy (suc n) w = record { refusal = suc n; found = false; compared = 0 }
+
+unfoldable pub matchOf : List ℕ → List ℕ → Matched
+matchOf pattern path = matchBy (matchRefusal pattern path) (walk (shapeOf pattern) (normalPath path))
+
+-- "Normalise a path into a lent buffer": what is written into its front. "a refused normalising writes nothing and reports 0"
+unfoldable pub writtenBy : ℕ → List ℕ → List ℕ
+writtenBy zero out = out
+writtenBy (suc n) out = []
+
+unfoldable pub normalWritten : List ℕ → List ℕ → List ℕ
+normalWritten path buffer = writtenBy (normaliseRefusal (length buffer) path) (normalPath path)
+
+-- "octets written"
+unfoldable pub normaliseOf : List ℕ → List ℕ → Normalised
+normaliseOf path buffer =
+    record { refusal = normaliseRefusal (length buffer) path; written = length (normalWritten path buffer) }
+
+-- "the rest of the buffer stays"
+unfoldable pub normaliseBuffer : List ℕ → List ℕ → List ℕ
+normaliseBuffer path buffer = normalWritten path buffer ++ drop (length (normalWritten path buffer)) buffer
+
+-- "Tell the kind of one line": "a refused line has no kind, place 0 and length 0"
+unfoldable pub lineAnswerBy : ℕ → Kind → LineAnswer
+lineAnswerBy zero k = LineAnswer.Kind k
+lineAnswerBy (suc n) k = LineAnswer.Refused (suc n)
+
+unfoldable pub lineAnswer : List ℕ → LineAnswer
+lineAnswer line = lineAnswerBy (lineRefusal line) (kindOf line)
+
+-- the numbers of that answer
+unfoldable pub refusalOf : LineAnswer → ℕ
+refusalOf (LineAnswer.Refused n) = n
+refusalOf (LineAnswer.Kind k) = 0
+
+unfoldable pub kindNumber : Kind → ℕ
+kindNumber Kind.Blank = 1
+kindNumber Kind.Noise = 2
+kindNumber Kind.Other = 3
+kindNumber (Kind.Agent (Agent.Readable p n)) = 4
+kindNumber (Kind.Agent (Agent.Unreadable p n)) = 5
+kindNumber (Kind.Rule Side.Allow Pattern.Empty) = 6
+kindNumber (Kind.Rule Side.Allow (Pattern.Readable p n)) = 7
+kindNumber (Kind.Rule Side.Allow (Pattern.Unreadable p n)) = 8
+kindNumber (Kind.Rule Side.Disallow Pattern.Empty) = 9
+kindNumber (Kind.Rule Side.Disallow (Pattern.Readable p n)) = 10
+kindNumber (Kind.Rule Side.Disallow (Pattern.Unreadable p n)) = 11
+
+unfoldable pub kindNumberOf : LineAnswer → ℕ
+kindNumberOf (LineAnswer.Refused n) = 0
+kindNumberOf (LineAnswer.Kind k) = kindNumber k
+
+unfoldable pub valuePlace : LineAnswer → Place
+valuePlace (LineAnswer.Refused n) = placeAt 0
+valuePlace (LineAnswer.Kind k) = placeOf k
+
+unfoldable pub valueLength : LineAnswer → ℕ
+valueLength (LineAnswer.Refused n) = 0
+valueLength (LineAnswer.Kind k) = lengthOf k

@@ -1,0 +1,96 @@
+-- The decision about a normalised path, from any entries and the file that they point into: document 01's is the one from the file's
+-- own entries. Assumes nothing.
+use Prim.Native.Nat.{ℕ}
+use mathlib.Core.Bool.{Bool, true, false, _&&_, _||_, not}
+use mathlib.Core.List.{List, [], _∷_}
+use mathlib.Core.Option.{Option, none, some}
+use lib.Dec.{ltb, eqb}
+use Rattle.lists.specs.Choice.{if_then_else_}
+use Rattle.lists.specs.Lists.{kept, total, same}
+use Rattle.protocol.specs.declared.Side.{Side}
+use Rattle.protocol.specs.declared.Walked.{Walked}
+use Rattle.protocol.specs.declared.Decision.{Decision}
+use Rattle.protocol.specs.Text.{octets, octetsAt}
+use Rattle.protocol.specs.Lines.{lineNumber, placeAt}
+use Rattle.protocol.specs.Readable.{readablePattern}
+use Rattle.protocol.specs.Entries.{Entry}
+use Rattle.protocol.specs.Rules.{Rule, applying, unread}
+use Rattle.protocol.specs.Pattern.{shapeOf, weight}
+use Rattle.protocol.specs.Walk.{walk}
+
+-- a rule's raw pattern
+abbrev pub patternOf : List ℕ → Rule → List ℕ
+patternOf file r = octetsAt file (r .place) (r .length)
+
+-- "Empty and unreadable patterns never match"
+unfoldable pub readableRules : List ℕ → List Rule → List Rule
+readableRules file rs = kept (λ r. readablePattern (patternOf file r)) rs
+
+unfoldable pub weightOf : List ℕ → Rule → ℕ
+weightOf file r = weight (shapeOf (patternOf file r))
+
+unfoldable pub walkOf : List ℕ → List ℕ → Rule → Walked
+walkOf file path r = walk (shapeOf (patternOf file r)) path
+
+-- "A decision's compared count is the sum over all applying readable rules, each walked"
+unfoldable pub comparedBy : List ℕ → List ℕ → List Rule → ℕ
+comparedBy file path rs = total (λ r. walkOf file path r .count) rs
+
+-- the rules whose walk finds a match
+unfoldable pub matching : List ℕ → List ℕ → List Rule → List Rule
+matching file path rs = kept (λ r. walkOf file path r .stood) rs
+
+unfoldable pub allows : Side → Bool
+allows Side.Allow = true
+allows Side.Disallow = false
+
+-- a later rule s is named and not r: it is heavier, or it is as heavy and allows where r doesn't
+unfoldable pub outdoes : List ℕ → Rule → Rule → Bool
+outdoes file s r =
+    ltb (weightOf file r) (weightOf file s) || (eqb (weightOf file r) (weightOf file s) && allows (s .side) && not (allows (r .side)))
+
+unfoldable pub chosen : List ℕ → Rule → Option Rule → Option Rule
+chosen file r none = some r
+chosen file r (some s) = if outdoes file s r then some s else some r
+
+-- "the heaviest match, allow before disallow at equal weight, then the earliest line"
+unfoldable pub deciding : List ℕ → List Rule → Option Rule
+deciding file [] = none
+deciding file (r ∷ rs) = chosen file r (deciding file rs)
+
+-- "deciding line (0 if no rule decided), place and length of that rule's raw pattern in the file (0 and 0 if none)"
+unfoldable pub decidedBy : Option Rule → ℕ → ℕ → Decision
+decidedBy none unread compared =
+    record {
+      refusal = 0;
+      side = Side.Allow;
+      line = lineNumber 0;
+      place = placeAt 0;
+      length = 0;
+      unread = unread;
+      compared = compared;
+    }
+decidedBy (some r) unread compared =
+    record {
+      refusal = 0;
+      side = r .side;
+      line = r .line;
+      place = r .place;
+      length = r .length;
+      unread = unread;
+      compared = compared;
+    }
+
+-- "/robots.txt, which is always allowed with no rule deciding"
+unfoldable pub isRobotsFile : List ℕ → Bool
+isRobotsFile path = same path (octets "/robots.txt")
+
+-- the decision by rules of which all are readable
+unfoldable pub decidedAmong : List ℕ → List ℕ → List Rule → ℕ → Decision
+decidedAmong file path rs unread = decidedBy (deciding file (matching file path rs)) unread (comparedBy file path rs)
+
+-- the answer about the normalised path, nothing being refused
+unfoldable pub answered : List ℕ → List Entry → List ℕ → List ℕ → Decision
+answered file es name path =
+    if isRobotsFile path then decidedBy none (unread file es) 0
+    else decidedAmong file path (readableRules file (applying file es name)) (unread file es)

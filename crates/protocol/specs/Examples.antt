@@ -1,0 +1,321 @@
+-- Worked examples: document 01's own table and program, and rows of ours beside them. proofs/Examples.antt computes them all. Assumes nothing.
+use Prim.Native.Nat.{ℕ}
+use Prim.Native.Char.{code}
+use Prim.Native.String.{String}
+use mathlib.Core.Bool.{Bool, true, false}
+use mathlib.Core.List.{List, [], _∷_, _++_, map}
+use Rattle.lists.specs.Choice.{if_then_else_}
+use Rattle.protocol.specs.declared.Side.{Side}
+use Rattle.protocol.specs.declared.Decision.{Decision}
+use Rattle.protocol.specs.declared.Matched.{Matched}
+use Rattle.protocol.specs.Octets.{is}
+use Rattle.protocol.specs.Text.{octets}
+use Rattle.protocol.specs.Answers.{decide, matchOf, normaliseOf, normaliseBuffer, lineAnswer, refusalOf, kindNumberOf, valuePlace, valueLength}
+
+-- "Answers: decision, line, unread, compared"; ours may be refused too
+pub record Answer : Type 0 where
+  pub refusal : ℕ
+  pub side : Side
+  pub line : ℕ
+  pub unread : ℕ
+  pub compared : ℕ
+
+abbrev pub told : Decision → Answer
+told d = record { refusal = d .refusal; side = d .side; line = d .line .number; unread = d .unread; compared = d .compared }
+
+abbrev pub allow : ℕ → ℕ → ℕ → Answer
+allow l u c = record { refusal = 0; side = Side.Allow; line = l; unread = u; compared = c }
+
+abbrev pub disallow : ℕ → ℕ → ℕ → Answer
+disallow l u c = record { refusal = 0; side = Side.Disallow; line = l; unread = u; compared = c }
+
+abbrev pub refused : ℕ → Answer
+refused n = record { refusal = n; side = Side.Disallow; line = 0; unread = 0; compared = 0 }
+
+-- File; Name, path; Answer
+pub record Row : Type 0 where
+  pub file : List ℕ
+  pub name : String
+  pub path : String
+  pub answer : Answer
+
+-- ""|" ends a line"
+abbrev pub lines : String → List ℕ
+lines s = map (λ c. if is "|" c then code "\n" else c) (octets s)
+
+abbrev pub rowIn : List ℕ → String → String → Answer → Row
+rowIn f n p a = record { file = f; name = n; path = p; answer = a }
+
+abbrev pub row : String → String → String → Answer → Row
+row f n p a = rowIn (lines f) n p a
+
+-- "EF BB BF"
+abbrev pub mark : List ℕ
+mark = 0xEF ∷ 0xBB ∷ 0xBF ∷ []
+
+abbrev pub asked : Row → Answer
+asked r = told (decide (r .file) (octets (r .name)) (octets (r .path)))
+
+abbrev pub answer : Row → Answer
+answer r = r .answer
+
+-- the table of document 01, which calls it the harbour table
+unfoldable pub workedTable : List Row
+workedTable =
+    row "" "a" "/" (allow 0 0 0)
+    ∷ row "user-agent: a|disallow: /" "A" "/x" (disallow 2 0 1)
+    ∷ row "user-agent: a|disallow: /" "a" "/%72obots.txt" (allow 0 0 0)
+    ∷ row "user-agent: a|disallow: /" "b" "/x" (allow 0 0 0)
+    ∷ row "user-agent: *|allow: /p|disallow: /" "a" "/page" (allow 2 0 3)
+    ∷ row "user-agent: *|disallow: /folder|allow: /folder" "a" "/folder/page" (allow 3 0 14)
+    ∷ row "user-agent: *|allow: /page|disallow: /*.htm" "a" "/page.htm" (disallow 3 0 14)
+    ∷ row "user-agent: *|disallow: /*.php$" "a" "/filename.php5" (allow 0 0 2)
+    ∷ row "user-agent: *|disallow: /path/foo-%24" "a" "/path/foo-$" (disallow 2 0 13)
+    ∷ row "user-agent: a|sitemap: x|user-agent: b|disallow: /" "a" "/" (disallow 4 0 1)
+    ∷ row "user-agent: a|disallow: x|user-agent: b|disallow: /" "a" "/" (allow 0 1 0)
+    ∷ []
+
+-- "For the input .. the whole output is"
+unfoldable pub programInput : List ℕ
+programInput =
+    octets "drydockbot\n"
+    ++ octets "/sailings/draft/9\n"
+    ++ octets "user-agent: *\n"
+    ++ octets "disallow: /sailings/draft\n"
+    ++ octets "allow: /sailings\n"
+
+unfoldable pub programOutput : List ℕ
+programOutput = octets "disallow line 2 unread 0 compared 24\n"
+
+-- Rows of ours: what document 01 rules out by name and its table lets pass, and what its table doesn't touch.
+unfoldable pub ourTable : List Row
+ourTable =
+    -- the heaviest match decides, wherever it stands, and not the first
+    row "user-agent: *|allow: /p|disallow: /page" "a" "/page" (disallow 3 0 7)
+    ∷ row "user-agent: *|disallow: /page|allow: /p" "a" "/page" (disallow 2 0 7)
+    -- at equal weight allow, and then the earliest line
+    ∷ row "user-agent: *|allow: /a|disallow: /a" "a" "/a" (allow 2 0 4)
+    ∷ row "user-agent: *|disallow: /a|disallow: /a" "a" "/a" (disallow 2 0 4)
+    -- weight is of the normalised pattern
+    ∷ row "user-agent: *|allow: /%41%41|disallow: /AAA" "a" "/AAAx" (disallow 3 0 7)
+    -- %2F and %2A aren't decoded
+    ∷ row "user-agent: *|disallow: /a%2fb" "a" "/a/bxx" (allow 0 0 3)
+    ∷ row "user-agent: *|disallow: /a%2ab" "a" "/a*b" (disallow 2 0 6)
+    ∷ row "user-agent: *|disallow: /a%2ab" "a" "/axxxb" (allow 0 0 3)
+    -- an unreadable or empty rule line divides groups; so does no other line
+    ∷ row "user-agent: a|allow: x|user-agent: b|disallow: /" "a" "/" (allow 0 1 0)
+    ∷ row "user-agent: a|disallow:|user-agent: b|disallow: /" "a" "/" (allow 0 0 0)
+    ∷ row "user-agent: a||# x|x|:|user-agent: b|disallow: /" "a" "/" (disallow 7 0 1)
+    -- an agent line with nothing behind its colon is unreadable, and joins or starts a group all the same
+    ∷ row "user-agent:|disallow: /" "a" "/" (allow 0 1 0)
+    ∷ row "user-agent: a|user-agent: a/1|disallow: /" "a" "/" (disallow 3 1 1)
+    -- the "*" groups' rules aren't added to a named group's, be that group without rules
+    ∷ row "user-agent: a|disallow: /x|user-agent: *|disallow: /" "a" "/y" (allow 0 0 2)
+    ∷ row "user-agent: *|disallow: /|user-agent: a" "a" "/y" (allow 0 0 0)
+    -- all groups that name the crawler, each once
+    ∷ row "user-agent: a|disallow: /x|user-agent: b|disallow: /|user-agent: A|disallow: /y" "a" "/y" (disallow 6 0 4)
+    ∷ row "user-agent: a|user-agent: A|disallow: /" "a" "/" (disallow 3 0 1)
+    -- a rule before the first agent line is in no group
+    ∷ row "disallow: /|user-agent: *|allow: /x" "a" "/y" (allow 0 0 2)
+    -- a "$" that isn't last is no end mark, and "%24" is none; of "$$" the last is
+    ∷ row "user-agent: *|disallow: /a$b" "a" "/a$bc" (disallow 2 0 6)
+    ∷ row "user-agent: *|disallow: /a%24" "a" "/a$b" (disallow 2 0 5)
+    ∷ row "user-agent: *|disallow: /a$$" "a" "/a$" (disallow 2 0 5)
+    ∷ row "user-agent: *|disallow: /a$$" "a" "/a$b" (allow 0 0 0)
+    -- the end mark is taken off before normalising
+    ∷ row "user-agent: *|disallow: /a%2$" "a" "/a%2" (disallow 2 0 6)
+    -- one run with an end mark fails at no cost unless its length is the path's
+    ∷ row "user-agent: *|disallow: /a$" "a" "/ab" (allow 0 0 0)
+    ∷ row "user-agent: *|disallow: /ab$" "a" "/a" (allow 0 0 0)
+    -- a star may stop inside a %XX, and may stand for nothing
+    ∷ row "user-agent: *|disallow: /*4$" "a" "/$" (disallow 2 0 2)
+    ∷ row "user-agent: *|disallow: /a**b*" "a" "/ab" (disallow 2 0 3)
+    -- CR LF is one ending, LF CR is two, and CR alone is one
+    ∷ row "user-agent: a\r|disallow: /" "a" "/" (disallow 2 0 1)
+    ∷ row "user-agent: a|\rdisallow: /" "a" "/" (disallow 3 0 1)
+    ∷ row "user-agent: a\rdisallow: /" "a" "/" (disallow 2 0 1)
+    -- a leading mark is skipped, once
+    ∷ rowIn (mark ++ lines "user-agent: a|disallow: /") "a" "/" (disallow 2 0 1)
+    ∷ rowIn (mark ++ mark ++ lines "user-agent: a|disallow: /") "a" "/" (allow 0 0 0)
+    ∷ rowIn mark "a" "/" (allow 0 0 0)
+    -- comments, spaces and tabs
+    ∷ row "\tUser-Agent : a # b|disallow:/ # c" "a" "/" (disallow 2 0 1)
+    -- NUL is an octet like any other
+    ∷ row "user-agent: a|allow\0: /|disallow: /" "a" "/" (disallow 3 0 1)
+    -- /robots.txt is allowed with the whole file's unread count, and nothing is compared; with a query it is another path
+    ∷ row "user-agent: *|disallow: x|disallow: /" "a" "/robots.txt" (allow 0 1 0)
+    ∷ row "user-agent: *|disallow: /" "a" "/robots.txt?x" (disallow 2 0 1)
+    -- refusals, the smallest number first
+    ∷ row "user-agent: *|allow: /" "" "" (refused 2)
+    ∷ row "user-agent: *|allow: /" "a1" "/" (refused 2)
+    ∷ row "user-agent: *|allow: /" "a" "" (refused 3)
+    ∷ row "user-agent: *|allow: /" "a" "a b" (refused 4)
+    ∷ row "user-agent: *|allow: /" "a" "/a b" (refused 5)
+    ∷ row "user-agent: *|allow: /" "a" "/a#b" (refused 5)
+    ∷ []
+
+-- Where the deciding rule's pattern stands: its place and length in the file
+pub record Located : Type 0 where
+  pub file : List ℕ
+  pub path : String
+  pub place : ℕ
+  pub length : ℕ
+
+pub record Span : Type 0 where
+  pub place : ℕ
+  pub length : ℕ
+
+abbrev pub located : List ℕ → String → ℕ → ℕ → Located
+located f p q n = record { file = f; path = p; place = q; length = n }
+
+abbrev pub spanAsked : Located → Span
+spanAsked r =
+    let d = decide (r .file) (octets "a") (octets (r .path)) in
+    record { place = d .place .offset; length = d .length }
+
+abbrev pub span : Located → Span
+span r = record { place = r .place; length = r .length }
+
+unfoldable pub ourSpans : List Located
+ourSpans =
+    located (lines "user-agent: *|disallow:  /%41$ |") "/A" 25 5
+    ∷ located (mark ++ lines "user-agent: *\r|disallow: /a") "/a" 28 2
+    ∷ located (lines "user-agent: *|disallow:") "/a" 0 0
+    ∷ located (lines "user-agent: *|disallow: /b") "/a" 0 0
+    ∷ located (lines "user-agent: *|disallow: /a") "a" 0 0
+    ∷ []
+
+-- One line: its refusal, the number of its kind, and its value's place and length
+pub record LineRow : Type 0 where
+  pub line : List ℕ
+  pub refusal : ℕ
+  pub kind : ℕ
+  pub place : ℕ
+  pub length : ℕ
+
+abbrev pub lineRow : List ℕ → ℕ → ℕ → ℕ → ℕ → LineRow
+lineRow l r k p n = record { line = l; refusal = r; kind = k; place = p; length = n }
+
+abbrev pub lineAsked : LineRow → LineRow
+lineAsked r =
+    let a = lineAnswer (r .line) in
+    record {
+      line = r .line;
+      refusal = refusalOf a;
+      kind = kindNumberOf a;
+      place = valuePlace a .offset;
+      length = valueLength a;
+    }
+
+unfoldable pub ourLines : List LineRow
+ourLines =
+    lineRow [] 0 1 0 0
+    ∷ lineRow (octets " \t# a: b") 0 1 0 0
+    ∷ lineRow (octets "allow /# :") 0 2 0 0
+    ∷ lineRow (octets ":") 0 3 0 0
+    ∷ lineRow (octets "sitemap: /") 0 3 0 0
+    ∷ lineRow (octets "user-agent: a-B_c") 0 4 12 5
+    ∷ lineRow (octets "\tUSER-AGENT :* # a") 0 4 13 1
+    ∷ lineRow (octets "user-agent:") 0 5 0 0
+    ∷ lineRow (octets "user-agent: a b") 0 5 12 3
+    ∷ lineRow (octets "user-agent: **") 0 5 12 2
+    ∷ lineRow (octets "allow: # a") 0 6 0 0
+    ∷ lineRow (octets "Allow:/a:b") 0 7 6 4
+    ∷ lineRow (octets "allow: a/") 0 8 7 2
+    ∷ lineRow (octets "disallow:\t") 0 9 0 0
+    ∷ lineRow (octets "  disallow : /a# b") 0 10 13 2
+    ∷ lineRow (octets "disallow: /a b") 0 11 10 4
+    -- well-formed: U+007F, U+0080, U+D7FF, U+10FFFF
+    ∷ lineRow (octets "allow:/" ++ (0x7F ∷ 0xC2 ∷ 0x80 ∷ 0xED ∷ 0x9F ∷ 0xBF ∷ 0xF4 ∷ 0x8F ∷ 0xBF ∷ 0xBF ∷ [])) 0 7 6 11
+    -- a control octet, a lone tail, a character cut short, overlong forms, a surrogate, and what is past U+10FFFF
+    ∷ lineRow (octets "allow:/" ++ (0x1F ∷ [])) 0 8 6 2
+    ∷ lineRow (octets "allow:/" ++ (0x80 ∷ [])) 0 8 6 2
+    ∷ lineRow (octets "allow:/" ++ (0xE1 ∷ 0x80 ∷ [])) 0 8 6 3
+    ∷ lineRow (octets "allow:/" ++ (0xC1 ∷ 0xBF ∷ [])) 0 8 6 3
+    ∷ lineRow (octets "allow:/" ++ (0xE0 ∷ 0x9F ∷ 0xBF ∷ [])) 0 8 6 4
+    ∷ lineRow (octets "allow:/" ++ (0xF0 ∷ 0x8F ∷ 0xBF ∷ 0xBF ∷ [])) 0 8 6 5
+    ∷ lineRow (octets "allow:/" ++ (0xED ∷ 0xA0 ∷ 0x80 ∷ [])) 0 8 6 4
+    ∷ lineRow (octets "allow:/" ++ (0xF4 ∷ 0x90 ∷ 0x80 ∷ 0x80 ∷ [])) 0 8 6 5
+    -- no leading mark is skipped, and padding is no part of a field name
+    ∷ lineRow (mark ++ octets "allow: /") 0 3 0 0
+    ∷ lineRow (octets "allow\0\0\0\0\0: /") 0 3 0 0
+    ∷ lineRow (octets "allow: /\n") 9 0 0 0
+    ∷ lineRow (octets "# \r") 9 0 0 0
+    ∷ []
+
+-- One pattern and one path: refusal, yes or no, count
+pub record MatchRow : Type 0 where
+  pub pattern : String
+  pub path : String
+  pub answer : Matched
+
+abbrev pub matchRow : String → String → ℕ → Bool → ℕ → MatchRow
+matchRow q p r b n = record { pattern = q; path = p; answer = record { refusal = r; found = b; compared = n } }
+
+abbrev pub matchAsked : MatchRow → Matched
+matchAsked r = matchOf (octets (r .pattern)) (octets (r .path))
+
+abbrev pub matchAnswer : MatchRow → Matched
+matchAnswer r = r .answer
+
+unfoldable pub ourMatches : List MatchRow
+ourMatches =
+    -- a run that is placed is never moved: "b" stands at 2, and "bc" is sought behind it
+    matchRow "/*b*bc" "/abxbc" 0 true 6
+    -- the last run of an end-marked pattern has one start
+    ∷ matchRow "/*b$" "/abab" 0 true 2
+    ∷ matchRow "/*ab*b$" "/ab" 0 false 3
+    ∷ matchRow "/a*$" "/a" 0 true 2
+    -- a try that would pass the end fails at no cost
+    ∷ matchRow "/aaa" "/a" 0 false 0
+    ∷ matchRow "/*aab" "/aaac" 0 false 7
+    -- /robots.txt is a path like any other
+    ∷ matchRow "/" "/robots.txt" 0 true 1
+    ∷ matchRow "/" "" 3 false 0
+    ∷ matchRow "" "a" 4 false 0
+    ∷ matchRow "" "/ " 5 false 0
+    ∷ matchRow "" "/" 8 false 0
+    ∷ matchRow "a" "/" 8 false 0
+    ∷ matchRow "/a#" "/" 8 false 0
+    ∷ []
+
+-- One path and a lent buffer: refusal, octets written, and what the buffer holds then
+pub record NormalRow : Type 0 where
+  pub path : List ℕ
+  pub buffer : List ℕ
+  pub refusal : ℕ
+  pub written : ℕ
+  pub left : List ℕ
+
+abbrev pub normalRow : List ℕ → String → ℕ → ℕ → String → NormalRow
+normalRow p b r n l = record { path = p; buffer = octets b; refusal = r; written = n; left = octets l }
+
+abbrev pub normalAsked : NormalRow → NormalRow
+normalAsked r =
+    let a = normaliseOf (r .path) (r .buffer) in
+    record {
+      path = r .path;
+      buffer = r .buffer;
+      refusal = a .refusal;
+      written = a .written;
+      left = normaliseBuffer (r .path) (r .buffer);
+    }
+
+unfoldable pub ourNormals : List NormalRow
+ourNormals =
+    -- RFC 9309, Figure 4: the first, third, fourth and fifth rows
+    normalRow (octets "/foo/bar?baz=quz") "................" 0 16 "/foo/bar?baz=quz"
+    ∷ normalRow (octets "/foo/bar/" ++ (0xE3 ∷ 0x83 ∷ 0x84 ∷ [])) ".................." 0 18 "/foo/bar/%E3%83%84"
+    ∷ normalRow (octets "/foo/bar/%E3%83%84") ".................." 0 18 "/foo/bar/%E3%83%84"
+    ∷ normalRow (octets "/foo/bar/%62%61%7A") "............" 0 12 "/foo/bar/baz"
+    -- the rest of the buffer stays; one octet less of it is refused, and nothing is written
+    ∷ normalRow (octets "/%7e*$%2f%") "................" 0 14 "/~%2A%24%2F%25.."
+    ∷ normalRow (octets "/%7e*$%2f%") ".............." 0 14 "/~%2A%24%2F%25"
+    ∷ normalRow (octets "/%7e*$%2f%") "............." 6 0 "............."
+    -- an escape begins at its "%" and takes two digits
+    ∷ normalRow (octets "/%%41%4%4g") "................" 0 14 "/%25A%254%254g.."
+    ∷ normalRow (octets "/" ++ (0x7F ∷ [])) "...." 0 4 "/%7F"
+    ∷ normalRow [] "." 3 0 "."
+    ∷ normalRow (octets "a") "" 4 0 ""
+    ∷ normalRow (octets "/ ") "" 5 0 ""
+    ∷ []

@@ -1,0 +1,82 @@
+-- The kind of one line, given without its line ending. No leading mark is skipped here. Assumes nothing.
+use Prim.Native.Nat.{ℕ, _+_}
+use Prim.Native.String.{String}
+use mathlib.Core.Bool.{Bool}
+use mathlib.Core.List.{List, [], _∷_, tail}
+use lib.ListN.{length}
+use Rattle.lists.specs.Choice.{if_then_else_}
+use Rattle.lists.specs.Lists.{empty, any, upTo, from}
+use Rattle.protocol.specs.declared.Place.{Place}
+use Rattle.protocol.specs.declared.Side.{Side}
+use Rattle.protocol.specs.declared.Agent.{Agent}
+use Rattle.protocol.specs.declared.Pattern.{Pattern}
+use Rattle.protocol.specs.declared.Kind.{Kind}
+use Rattle.protocol.specs.Octets.{is}
+use Rattle.protocol.specs.Text.{octets, sameIgnoringCase, lead, trim}
+use Rattle.protocol.specs.Lines.{placeAt}
+use Rattle.protocol.specs.Readable.{readableAgent, readablePattern}
+
+-- an agent's value at place p of the line; "0 and 0 if that is empty"
+unfoldable pub agentAt : ℕ → List ℕ → Agent
+agentAt p [] = Agent.Unreadable (placeAt 0) 0
+agentAt p (c ∷ v) =
+    if readableAgent (c ∷ v) then Agent.Readable (placeAt p) (length (c ∷ v)) else Agent.Unreadable (placeAt p) (length (c ∷ v))
+
+-- a rule's pattern at place p of the line: "its pattern is empty, readable or unreadable"
+unfoldable pub patternAt : ℕ → List ℕ → Pattern
+patternAt p [] = Pattern.Empty
+patternAt p (c ∷ v) =
+    if readablePattern (c ∷ v) then Pattern.Readable (placeAt p) (length (c ∷ v))
+    else Pattern.Unreadable (placeAt p) (length (c ∷ v))
+
+-- "compared ignoring ASCII case, as any later field name is"
+abbrev pub isField : String → List ℕ → Bool
+isField name field = sameIgnoringCase field (octets name)
+
+-- a field, and its value at place p of the line; "other: any other field, an empty one included"
+unfoldable pub fieldKind : List ℕ → ℕ → List ℕ → Kind
+fieldKind field p value =
+    if isField "user-agent" field then Kind.Agent (agentAt p value)
+    else if isField "allow" field then Kind.Rule Side.Allow (patternAt p value)
+    else if isField "disallow" field then Kind.Rule Side.Disallow (patternAt p value)
+    else Kind.Other
+
+-- "the field is what precedes the first colon, the value what follows, each without spaces and tabs at its ends"; l begins at place p
+unfoldable pub recordKind : ℕ → List ℕ → Kind
+recordKind p l =
+    let field = upTo (is ":") l in
+    let value = tail (from (is ":") l) in
+    fieldKind (trim field) (p + length field + 1 + lead value) (trim value)
+
+-- what is left of the line, from its place p on. "blank: nothing left; noise: no colon"
+unfoldable pub restKind : ℕ → List ℕ → Kind
+restKind p l = if empty l then Kind.Blank else if any (is ":") l then recordKind p l else Kind.Noise
+
+-- "everything from the first "#" on is comment and isn't examined"
+unfoldable pub uncommented : List ℕ → List ℕ
+uncommented line = upTo (is "#") line
+
+-- "Spaces and tabs at both ends are dropped. Then:"
+unfoldable pub kindOf : List ℕ → Kind
+kindOf line = let l = uncommented line in restKind (lead l) (trim l)
+
+-- "with the place and length in it of an agent's value or a rule's pattern (0 and 0 if that is empty, and for every other kind)"
+unfoldable pub placeOf : Kind → Place
+placeOf Kind.Blank = placeAt 0
+placeOf Kind.Noise = placeAt 0
+placeOf Kind.Other = placeAt 0
+placeOf (Kind.Agent (Agent.Readable p n)) = p
+placeOf (Kind.Agent (Agent.Unreadable p n)) = p
+placeOf (Kind.Rule side Pattern.Empty) = placeAt 0
+placeOf (Kind.Rule side (Pattern.Readable p n)) = p
+placeOf (Kind.Rule side (Pattern.Unreadable p n)) = p
+
+unfoldable pub lengthOf : Kind → ℕ
+lengthOf Kind.Blank = 0
+lengthOf Kind.Noise = 0
+lengthOf Kind.Other = 0
+lengthOf (Kind.Agent (Agent.Readable p n)) = n
+lengthOf (Kind.Agent (Agent.Unreadable p n)) = n
+lengthOf (Kind.Rule side Pattern.Empty) = 0
+lengthOf (Kind.Rule side (Pattern.Readable p n)) = n
+lengthOf (Kind.Rule side (Pattern.Unreadable p n)) = n

@@ -1,0 +1,16 @@
+pub mod Octets
+pub mod Text
+pub mod Lines
+pub mod Readable
+pub mod Kinds
+pub mod Entries
+pub mod Rules
+pub mod Normal
+pub mod Pattern
+pub mod Matching
+pub mod Walk
+pub mod Refusals
+pub mod Decision
+pub mod Answers
+pub mod Program
+pub mod Examples

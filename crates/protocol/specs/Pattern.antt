@@ -1,0 +1,35 @@
+-- What a raw pattern stands for: octets and stars, perhaps an end mark; and its weight and its runs. Assumes nothing.
+use Prim.Native.Nat.{ℕ, _+_}
+use mathlib.Core.Bool.{Bool, true}
+use mathlib.Core.List.{List, [], _∷_, _++_, dropLast}
+use lib.ListN.{length}
+use Rattle.lists.specs.Choice.{if_then_else_}
+use Rattle.lists.specs.Lists.{upTo}
+use Rattle.protocol.specs.Octets.{is}
+use Rattle.protocol.specs.Text.{ends}
+use Rattle.protocol.specs.Normal.{normal}
+
+-- a normalised pattern without its end mark, in which "*" is a star, and whether it has an end mark
+pub record Shape : Type 0 where
+  pub text : List ℕ
+  pub endMark : Bool
+
+-- "a "$" as its last raw octet is the end mark, and the part before it is normalised by itself"
+unfoldable pub shapeOf : List ℕ → Shape
+shapeOf raw = record { text = normal true 0 (if ends "$" raw then dropLast raw else raw); endMark = ends "$" raw }
+
+-- "A pattern's weight is its normalised octets, with one for each star and one for the end mark"
+unfoldable pub weight : Shape → ℕ
+weight s = length (s .text) + (if s .endMark then 1 else 0)
+
+abbrev pub isStar : ℕ → Bool
+isStar x = is "*" x
+
+-- "cut it at its stars into runs, some perhaps empty": the first run
+unfoldable pub firstRun : List ℕ → List ℕ
+firstRun text = upTo isStar text
+
+-- and the later runs, one behind each star
+unfoldable pub laterRuns : List ℕ → List (List ℕ)
+laterRuns [] = []
+laterRuns (c ∷ text) = (if isStar c then firstRun text ∷ [] else []) ++ laterRuns text

@@ -1,0 +1,66 @@
+-- "The rules that apply", and the unread count: of any entries, with the octets that their places point at in the file. Assumes nothing.
+use Prim.Native.Nat.{ℕ}
+use mathlib.Core.Bool.{Bool, true, false, _&&_, not}
+use mathlib.Core.List.{List, [], _∷_, _++_}
+use lib.Dec.{eqb}
+use Rattle.lists.specs.Choice.{if_then_else_}
+use Rattle.lists.specs.Lists.{empty, any, total}
+use Rattle.protocol.specs.declared.LineNumber.{LineNumber}
+use Rattle.protocol.specs.declared.Place.{Place}
+use Rattle.protocol.specs.declared.Side.{Side}
+use Rattle.protocol.specs.Text.{octetsAt}
+use Rattle.protocol.specs.Readable.{everyone, readableAgent, names, readablePattern}
+use Rattle.protocol.specs.Entries.{Role, agent, rule, Entry}
+
+-- the octets of an entry's value
+abbrev pub valueOf : List ℕ → Entry → List ℕ
+valueOf file e = octetsAt file (e .place) (e .length)
+
+-- the entry is an agent line that names who; group 0 is no group
+unfoldable pub namedBy : List ℕ → List ℕ → Role → Entry → Bool
+namedBy file who agent e = not (eqb (e .group) 0) && names (valueOf file e) who
+namedBy file who (rule side) e = false
+
+abbrev pub naming : List ℕ → List ℕ → Entry → Bool
+naming file who e = namedBy file who (e .role) e
+
+-- some group names who
+unfoldable pub someGroupNames : List ℕ → List Entry → List ℕ → Bool
+someGroupNames file es who = any (naming file who) es
+
+-- the group g names who
+unfoldable pub groupNames : List ℕ → List Entry → List ℕ → ℕ → Bool
+groupNames file es who g = any (λ e. eqb (e .group) g && naming file who e) es
+
+-- a rule line: its line, its side, and the place and length of its pattern in the file
+pub record Rule : Type 0 where
+  pub line : LineNumber
+  pub side : Side
+  pub place : Place
+  pub length : ℕ
+
+unfoldable pub ruleIn : (ℕ → Bool) → Role → Entry → List Rule
+ruleIn chosen agent e = []
+ruleIn chosen (rule side) e =
+    if chosen (e .group) then record { line = e .line; side = side; place = e .place; length = e .length } ∷ [] else []
+
+-- the rules of the groups that are chosen, in the order of the entries, each once
+unfoldable pub rulesIn : (ℕ → Bool) → List Entry → List Rule
+rulesIn chosen [] = []
+rulesIn chosen (e ∷ es) = ruleIn chosen (e .role) e ++ rulesIn chosen es
+
+-- "if any group names the crawler, the rules of all such groups, each group once; otherwise those of all groups naming "*"; otherwise none"
+unfoldable pub addressee : List ℕ → List Entry → List ℕ → List ℕ
+addressee file es crawler = if someGroupNames file es crawler then crawler else everyone
+
+unfoldable pub applying : List ℕ → List Entry → List ℕ → List Rule
+applying file es crawler = rulesIn (groupNames file es (addressee file es crawler)) es
+
+-- an agent line that isn't readable, or a rule line whose pattern is neither empty nor readable
+unfoldable pub unreadable : Role → List ℕ → Bool
+unreadable agent v = not (readableAgent v)
+unreadable (rule side) v = not (empty v) && not (readablePattern v)
+
+-- "The unread count is the number of unreadable agent and rule lines in the whole file"
+unfoldable pub unread : List ℕ → List Entry → ℕ
+unread file es = total (λ e. if unreadable (e .role) (valueOf file e) then 1 else 0) es

@@ -1,0 +1,82 @@
+// The types of document 01's answers. What each answer is, for every input, is defined in specs/.
+
+// The number of a line, counted from 1; 0 stands for no line.
+pub struct LineNumber {
+    pub number: usize,
+}
+
+// The place of an octet in a file or in a line, counted from 0.
+pub struct Place {
+    pub offset: usize,
+}
+
+// The side of a rule, and of a decision.
+pub enum Side {
+    Allow,
+    Disallow,
+}
+
+// The value of an agent line, with its place and length: 0 and 0 where it is empty.
+pub enum Agent {
+    Readable(Place, usize),
+    Unreadable(Place, usize),
+}
+
+// The pattern of a rule line, with its place and length.
+pub enum Pattern {
+    Empty,
+    Readable(Place, usize),
+    Unreadable(Place, usize),
+}
+
+// The kind of a line.
+pub enum Kind {
+    Blank,
+    Noise,
+    Other,
+    Agent(Agent),
+    Rule(Side, Pattern),
+}
+
+// One try of a run at one place of a path: whether no pair of octets differed, and the pairs compared so far.
+pub struct Tried {
+    pub stood: bool,
+    pub count: usize,
+}
+
+// A walk after some of its runs: whether all of them stood, where the last one ends in the path, and the pairs compared so far.
+pub struct Walked {
+    pub stood: bool,
+    pub past: usize,
+    pub count: usize,
+}
+
+// The answer to: decide for a file, a name and a path.
+pub struct Decision {
+    pub refusal: usize,
+    pub side: Side,
+    pub line: LineNumber,
+    pub place: Place,
+    pub length: usize,
+    pub unread: usize,
+    pub compared: usize,
+}
+
+// The answer to: match one pattern against one path.
+pub struct Matched {
+    pub refusal: usize,
+    pub found: bool,
+    pub compared: usize,
+}
+
+// The answer to: normalise a path into a lent buffer.
+pub struct Normalised {
+    pub refusal: usize,
+    pub written: usize,
+}
+
+// The answer to: tell the kind of one line.
+pub enum LineAnswer {
+    Refused(usize),
+    Kind(Kind),
+}

@@ -1,0 +1,32 @@
+#!/bin/sh
+# Runs every test: the layout of the sources, rt ci (every crate proved from nothing, every must-fail edit refused, every program run),
+# and the tests in Rust. Stops at the first step that fails. The last line is rt ci's own, printed only if every step passed.
+set -u
+cd "$(dirname "$0")" || exit 2
+
+fail() {
+    echo "test.sh: failed: $1"
+    exit 1
+}
+
+# rustup's own folder may be missing from the search path
+PATH="$PATH:${HOME:-/root}/.cargo/bin"
+for tool in rt cargo; do
+    command -v "$tool" >/dev/null || fail "$tool is not installed; see README.md, 'What you need'"
+done
+
+rt fmt --check || fail "rt fmt --check: run 'rt fmt'"
+
+log=$(mktemp) || fail "mktemp"
+trap 'rm -f "$log"' EXIT
+# the verdict, rt ci's last line, is held back until everything has passed
+{ rt ci 2>&1 || echo "rt ci: exit status $?"; } | tee "$log" | sed '$d'
+verdict=$(tail -n 1 "$log")
+case $verdict in
+    *[0-9]" passed, 0 failed") ;;
+    *) fail "rt ci: $verdict" ;;
+esac
+
+cargo test --manifest-path conformance/Cargo.toml --workspace --offline --locked || fail "cargo test in conformance/"
+
+echo "$verdict"
