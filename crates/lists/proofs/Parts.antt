@@ -1,11 +1,10 @@
--- A list cut at the first element that passes a test, and a property that each element has. Assumes nothing.
-use Prim.Native.Nat.{ℕ, suc, _+_, _≤_}
-use mathlib.Core.Path.{_≡_, refl, ap, _∙_}
+-- A list cut at the first element that passes a test, a property that each element has, and sums. Assumes nothing.
+use Prim.Native.Nat.{ℕ, _+_}
+use mathlib.Core.Path.{_≡_, refl, ap}
 use mathlib.Core.Bool.{Bool, true, false}
 use mathlib.Core.List.{List, [], _∷_, _++_}
 use native.Mathlib.Omega.{arith}
-use lib.ListN.{length, length-append}
-use Rattle.lists.specs.Lists.{any, upTo, from}
+use Rattle.lists.specs.Lists.{upTo, from, total}
 use Rattle.lists.specs.Each.{Each}
 use Rattle.lists.proofs.Bools.{split}
 
@@ -34,10 +33,12 @@ module _ {A : Type 0} (f : A → Bool) where
   upTo-from (x ∷ l) =
       split (f x) (λ e. rw (upTo-stop f x l e, from-stop f x l e)) (λ e. rw (upTo-on f x l e, from-on f x l e) (ap (λ (m : List A). x ∷ m) (upTo-from l)))
 
-  pub length-upTo-from : (l : List A) → length (upTo f l) + length (from f l) ≡ length l
-  length-upTo-from l = omega (arith, length-append (upTo f l) (from f l), ap length (upTo-from l))
-
 module _ {A : Type 0} (P : A → Type 0) where
   pub each-append : (l m : List A) → Each P l → Each P m → Each P (l ++ m)
   each-append [] m h k = k
   each-append (x ∷ l) m h k = (h .0, each-append l m (h .1) k)
+
+pub total-append : {A : Type 0} (f : A → ℕ) (l m : List A) → total f (l ++ m) ≡ total f l + total f m
+unfolding total
+total-append f [] m = omega arith
+total-append f (x ∷ l) m = omega (arith, total-append f l m)

@@ -3,20 +3,17 @@
 use Prim.Native.Nat.{ℕ, suc, _+_, _≤_, _<_}
 use mathlib.Core.Path.{_≡_, refl, sym, ap, _∙_}
 use mathlib.Core.Bool.{Bool, true, false, _&&_, _||_, not, true≢false}
-use mathlib.Core.List.{List, [], _∷_, _++_}
+use mathlib.Core.List.{List, [], _∷_}
 use native.Mathlib.Omega.{arith}
-use native.Mathlib.Numerals.{add-one}
-use lib.Dec.{eqb}
-use lib.ListN.{length, drop, getD, length-drop, drop-of-length-le}
+use lib.ListN.{length, drop, getD, drop-of-length-le}
 use lib.Seq.{drop-cons, drop-drop}
 use Rattle.lists.specs.Choice.{if_then_else_}
 use Rattle.lists.specs.Lists.{upTo, from}
-use Rattle.lists.specs.Each.{Each}
 use Rattle.lists.proofs.Bools.{split}
 use Rattle.lists.proofs.Parts.{upTo-stop, upTo-on, from-stop, from-on}
 use Rattle.protocol.specs.Octets.{is, lineEnd}
 use Rattle.protocol.specs.Text.{begins}
-use Rattle.protocol.specs.Lines.{Line, line, closes, joined, put, linesFrom, marked, skipped, linesOf, lineText, endingLength, lineLength}
+use Rattle.protocol.specs.Lines.{line, closes, joined, put, linesFrom, lineText, endingLength, lineLength}
 
 -- an octet ends its line, is the CR of a CR LF, or is an octet of its line's text
 module _ (c : ℕ) (lf : Bool) where

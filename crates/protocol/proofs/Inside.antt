@@ -1,26 +1,22 @@
 -- Every line and every entry of a file lies inside the file, and holds the file's octets. Assumes nothing.
 use Prim.Native.Nat.{ℕ, zero, suc, _+_, _≤_, _<_}
-use mathlib.Core.Path.{_≡_, refl, sym, ap, _∙_}
-use mathlib.Core.Bool.{Bool, true, false}
-use mathlib.Core.List.{List, [], _∷_, _++_}
+use mathlib.Core.Path.{_≡_}
+use mathlib.Core.Bool.{Bool, false}
+use mathlib.Core.List.{List, [], _∷_}
 use mathlib.Core.Option.{Option, none, some}
 use native.Mathlib.Omega.{arith}
 use lib.Dec.{eqb, ltb}
-use lib.ListN.{length, take, drop, getD, length-drop}
+use lib.ListN.{length, drop, getD}
 use lib.Seq.{drop-cons}
-use borrow.Author.Tests.{ltb-true, ltb-false, eqb-true, eqb-false}
-use Rattle.lists.specs.Choice.{if_then_else_}
-use Rattle.lists.specs.Lists.{upTo, from}
+use borrow.Author.Tests.{ltb-true, ltb-false, eqb-true}
 use Rattle.lists.specs.Each.{Each}
 use Rattle.lists.specs.Occurs.{Occurs}
 use Rattle.lists.proofs.Bools.{split}
 use Rattle.lists.proofs.Parts.{upTo-on, from-stop, each-append}
 use Rattle.lists.proofs.Places.{occurs-fits, occurs-front-in, occurs-read-in, occurs-drop, occurs-upTo}
-use Rattle.protocol.specs.declared.Place.{Place}
-use Rattle.protocol.specs.declared.Kind.{Kind}
 use Rattle.protocol.specs.Octets.{lineEnd}
 use Rattle.protocol.specs.Text.{begins, octetsAt}
-use Rattle.protocol.specs.Lines.{Line, line, closes, linesFrom, marked, skipped, linesOf, lineText, endingLength, lineLength}
+use Rattle.protocol.specs.Lines.{Line, closes, linesFrom, skipped, linesOf, lineText, endingLength, lineLength}
 use Rattle.protocol.specs.Kinds.{kindOf, placeOf, lengthOf}
 use Rattle.protocol.specs.Entries.{Role, Entry, roleOf, groupAt, ruledAfter, placeInFile, entryOf, entriesFrom, entries}
 use Rattle.protocol.proofs.FrontToBack.{lines-end, lines-next}

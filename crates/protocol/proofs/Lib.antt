@@ -4,3 +4,4 @@ pub mod FrontToBack
 pub mod Values
 pub mod Inside
 pub mod Sizes
+pub mod Unread

@@ -1,11 +1,11 @@
 -- How long a normalised path and a pattern's weight can be. Assumes nothing.
 use Prim.Native.Nat.{ℕ, zero, suc, _+_, _*_, _≤_}
 use Prim.Native.Char.{code}
-use mathlib.Core.Path.{_≡_, refl, sym, ap, _∙_}
+use mathlib.Core.Path.{_≡_, refl}
 use mathlib.Core.Bool.{Bool, true, false, _||_, false≢true}
-use mathlib.Core.List.{List, [], _∷_, _++_, dropLast}
+use mathlib.Core.List.{List, [], _∷_, dropLast}
 use native.Mathlib.Omega.{arith}
-use lib.Dec.{leb, eqb}
+use lib.Dec.{leb}
 use lib.ListN.{length, length-append}
 use borrow.Author.Tests.{eqb-true}
 use Rattle.lists.specs.Choice.{if_then_else_}
@@ -13,7 +13,7 @@ use Rattle.lists.proofs.Bools.{split}
 use Rattle.protocol.specs.Octets.{is, unreserved}
 use Rattle.protocol.specs.Text.{begins, ends}
 use Rattle.protocol.specs.Normal.{encoded, meant, escape, isEscape, escapeAt, special, plain, piece, normal, normalPath}
-use Rattle.protocol.specs.Pattern.{Shape, shapeOf, weight}
+use Rattle.protocol.specs.Pattern.{shapeOf, weight}
 
 escape-size : (l : List ℕ) → length (escapeAt l) ≤ 3
 unfolding escapeAt escape

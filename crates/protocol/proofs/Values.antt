@@ -1,16 +1,13 @@
 -- The value of a line stands in the line where its kind says, and is readable exactly where its kind says so. Assumes nothing.
-use Prim.Native.Nat.{ℕ, zero, suc, _+_, _≤_, _<_}
-use Prim.Native.Char.{code}
-use mathlib.Core.Path.{_≡_, refl, sym, ap, _∙_}
-use mathlib.Core.Bool.{Bool, true, false, _&&_, _||_}
+use Prim.Native.Nat.{ℕ, _+_, _≤_, _<_}
+use mathlib.Core.Path.{_≡_, refl, ap, _∙_}
+use mathlib.Core.Bool.{Bool, true, false}
 use mathlib.Core.List.{List, [], _∷_, _++_, tail}
 use native.Mathlib.Omega.{arith}
-use lib.ListN.{length, take, drop}
-use Rattle.lists.specs.Choice.{if_then_else_}
-use Rattle.lists.specs.Lists.{empty, any, all, upTo, from, same}
+use lib.ListN.{length}
+use Rattle.lists.specs.Lists.{empty, any, upTo, from, same}
 use Rattle.lists.specs.Occurs.{Occurs}
 use Rattle.lists.proofs.Bools.{split}
-use Rattle.lists.proofs.Parts.{upTo-stop, upTo-on, from-stop, from-on}
 use Rattle.lists.proofs.Places.{occurs-read, occurs-fits, occurs-in, occurs-in-front, occurs-front-in, occurs-front, occurs-upTo, occurs-from, occurs-past}
 use Rattle.protocol.specs.declared.Place.{Place}
 use Rattle.protocol.specs.declared.Side.{Side}
@@ -18,7 +15,7 @@ use Rattle.protocol.specs.declared.Agent.{Agent}
 use Rattle.protocol.specs.declared.Pattern.{Pattern}
 use Rattle.protocol.specs.declared.Kind.{Kind}
 use Rattle.protocol.specs.Octets.{is, blank}
-use Rattle.protocol.specs.Text.{octets, sameIgnoringCase, solid, lead, unlessAtEnd, trimEnd, trim, octetsAt}
+use Rattle.protocol.specs.Text.{octets, solid, lead, unlessAtEnd, trimEnd, trim, octetsAt}
 use Rattle.protocol.specs.Lines.{placeAt}
 use Rattle.protocol.specs.Readable.{isName, readableAgent, readablePattern}
 use Rattle.protocol.specs.Kinds.{agentAt, patternAt, isField, fieldKind, recordKind, restKind, uncommented, kindOf, placeOf, lengthOf}

@@ -1,7 +1,7 @@
 -- The kind of one line, given without its line ending. No leading mark is skipped here. Assumes nothing.
 use Prim.Native.Nat.{ℕ, _+_}
 use Prim.Native.String.{String}
-use mathlib.Core.Bool.{Bool}
+use mathlib.Core.Bool.{Bool, true, false}
 use mathlib.Core.List.{List, [], _∷_, tail}
 use lib.ListN.{length}
 use Rattle.lists.specs.Choice.{if_then_else_}
@@ -80,3 +80,14 @@ lengthOf (Kind.Agent (Agent.Unreadable p n)) = n
 lengthOf (Kind.Rule side Pattern.Empty) = 0
 lengthOf (Kind.Rule side (Pattern.Readable p n)) = n
 lengthOf (Kind.Rule side (Pattern.Unreadable p n)) = n
+
+-- "unreadable agent and rule lines"
+unfoldable pub unreadableKind : Kind → Bool
+unreadableKind Kind.Blank = false
+unreadableKind Kind.Noise = false
+unreadableKind Kind.Other = false
+unreadableKind (Kind.Agent (Agent.Readable p n)) = false
+unreadableKind (Kind.Agent (Agent.Unreadable p n)) = true
+unreadableKind (Kind.Rule side Pattern.Empty) = false
+unreadableKind (Kind.Rule side (Pattern.Readable p n)) = false
+unreadableKind (Kind.Rule side (Pattern.Unreadable p n)) = true

@@ -18,14 +18,14 @@ pub record Shape : Type 0 where
 unfoldable pub shapeOf : List ℕ → Shape
 shapeOf raw = record { text = normal true 0 (if ends "$" raw then dropLast raw else raw); endMark = ends "$" raw }
 
--- "A pattern's weight is its normalised octets, with one for each star and one for the end mark"
+-- The weight, document 01's own term: "A pattern's weight is its normalised octets, with one for each star and one for the end mark"
 unfoldable pub weight : Shape → ℕ
 weight s = length (s .text) + (if s .endMark then 1 else 0)
 
 abbrev pub isStar : ℕ → Bool
 isStar x = is "*" x
 
--- "cut it at its stars into runs, some perhaps empty": the first run
+-- The runs, document 01's own term: "cut it at its stars into runs, some perhaps empty". The first run
 unfoldable pub firstRun : List ℕ → List ℕ
 firstRun text = upTo isStar text
 

@@ -1,7 +1,6 @@
 -- "The program": the octets that it writes, for every input. Assumes nothing.
 use Prim.Native.Nat.{ℕ, zero, suc, _+_, _/_, _%_}
 use Prim.Native.Char.{code}
-use mathlib.Core.Bool.{Bool}
 use mathlib.Core.List.{List, [], _∷_, _++_, tail}
 use lib.Dec.{ltb}
 use Rattle.lists.specs.Choice.{if_then_else_}

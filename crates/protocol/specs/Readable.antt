@@ -45,8 +45,8 @@ abbrev pub _then_ : Range → List Range → Form
 a then l = record { first = a; more = l }
 
 -- RFC 9309: UTF8-tail = %x80-BF
-abbrev pub tail : Range
-tail = 0x80 to 0xBF
+abbrev pub utf8Tail : Range
+utf8Tail = 0x80 to 0xBF
 
 -- RFC 9309: UTF8-char-noctl = UTF8-1-noctl / UTF8-2 / UTF8-3 / UTF8-4, a row for each of their alternatives, in its order
 unfoldable pub characterForms : List Form
@@ -54,14 +54,14 @@ characterForms =
     (0x21 to 0x21 then [])
     ∷ (0x22 to 0x22 then [])
     ∷ (0x24 to 0x7F then [])
-    ∷ (0xC2 to 0xDF then tail ∷ [])
-    ∷ (0xE0 to 0xE0 then (0xA0 to 0xBF) ∷ tail ∷ [])
-    ∷ (0xE1 to 0xEC then tail ∷ tail ∷ [])
-    ∷ (0xED to 0xED then (0x80 to 0x9F) ∷ tail ∷ [])
-    ∷ (0xEE to 0xEF then tail ∷ tail ∷ [])
-    ∷ (0xF0 to 0xF0 then (0x90 to 0xBF) ∷ tail ∷ tail ∷ [])
-    ∷ (0xF1 to 0xF3 then tail ∷ tail ∷ tail ∷ [])
-    ∷ (0xF4 to 0xF4 then (0x80 to 0x8F) ∷ tail ∷ tail ∷ [])
+    ∷ (0xC2 to 0xDF then utf8Tail ∷ [])
+    ∷ (0xE0 to 0xE0 then (0xA0 to 0xBF) ∷ utf8Tail ∷ [])
+    ∷ (0xE1 to 0xEC then utf8Tail ∷ utf8Tail ∷ [])
+    ∷ (0xED to 0xED then (0x80 to 0x9F) ∷ utf8Tail ∷ [])
+    ∷ (0xEE to 0xEF then utf8Tail ∷ utf8Tail ∷ [])
+    ∷ (0xF0 to 0xF0 then (0x90 to 0xBF) ∷ utf8Tail ∷ utf8Tail ∷ [])
+    ∷ (0xF1 to 0xF3 then utf8Tail ∷ utf8Tail ∷ utf8Tail ∷ [])
+    ∷ (0xF4 to 0xF4 then (0x80 to 0x8F) ∷ utf8Tail ∷ utf8Tail ∷ [])
     ∷ []
 
 -- no octet is in it

@@ -1,6 +1,6 @@
 -- "The rules that apply", and the unread count: of any entries, with the octets that their places point at in the file. Assumes nothing.
 use Prim.Native.Nat.{ℕ}
-use mathlib.Core.Bool.{Bool, true, false, _&&_, not}
+use mathlib.Core.Bool.{Bool, false, _&&_, not}
 use mathlib.Core.List.{List, [], _∷_, _++_}
 use lib.Dec.{eqb}
 use Rattle.lists.specs.Choice.{if_then_else_}
@@ -61,6 +61,6 @@ unfoldable pub unreadable : Role → List ℕ → Bool
 unreadable agent v = not (readableAgent v)
 unreadable (rule side) v = not (empty v) && not (readablePattern v)
 
--- "The unread count is the number of unreadable agent and rule lines in the whole file"
+-- The unread count, document 01's own term: "The unread count is the number of unreadable agent and rule lines in the whole file"
 unfoldable pub unread : List ℕ → List Entry → ℕ
 unread file es = total (λ e. if unreadable (e .role) (valueOf file e) then 1 else 0) es

@@ -2,7 +2,7 @@
 use Prim.Native.Nat.{ℕ}
 use Prim.Native.Char.{Char, code}
 use Prim.Native.String.{String, [] as []ˢ, _∷_ as _∷ˢ_}
-use mathlib.Core.Bool.{Bool, true, false, not}
+use mathlib.Core.Bool.{Bool, false, not}
 use mathlib.Core.List.{List, [], _∷_, map}
 use lib.ListN.{length, take, drop}
 use Rattle.lists.specs.Choice.{if_then_else_}
@@ -29,6 +29,7 @@ ends c (x ∷ l) = if empty l then is c x else ends c l
 unfoldable pub sameIgnoringCase : List ℕ → List ℕ → Bool
 sameIgnoringCase l m = same (map lowerCase l) (map lowerCase m)
 
+-- neither a space nor a tab
 abbrev pub solid : ℕ → Bool
 solid x = not (blank x)
 

@@ -1,4 +1,4 @@
--- "The walk": which runs stand, and how many pairs of octets are compared on the way. `n` is the number of pairs compared before.
+-- "The walk", document 01's own term: which runs stand, and how many pairs of octets are compared on the way. `n` is the number of pairs compared before.
 -- `path` is the whole normalised path, and `t` what is left of it from the place k on. Assumes nothing.
 use Prim.Native.Nat.{ℕ, _+_, _-_}
 use mathlib.Core.Bool.{Bool, true, false}
@@ -10,7 +10,8 @@ use Rattle.protocol.specs.declared.Tried.{Tried}
 use Rattle.protocol.specs.declared.Walked.{Walked}
 use Rattle.protocol.specs.Pattern.{Shape, firstRun, laterRuns}
 
--- "A try compares left to right, stops at the first difference, and each pair compared counts 1"
+-- "A try compares left to right, stops at the first difference, and each pair compared counts 1". Within the path, the second line is
+-- never reached.
 unfoldable pub tried : List ℕ → List ℕ → ℕ → Tried
 tried [] t n = record { stood = true; count = n }
 tried (a ∷ r) [] n = record { stood = false; count = n }

@@ -32,6 +32,7 @@ pub enum Pattern {
 // The kind of a line.
 pub enum Kind {
     Blank,
+    // Document 01's own term: something is left of the line, and no colon is in it.
     Noise,
     Other,
     Agent(Agent),
@@ -58,6 +59,7 @@ pub struct Decision {
     pub line: LineNumber,
     pub place: Place,
     pub length: usize,
+    // Document 01's own term: the number of unreadable agent and rule lines in the whole file.
     pub unread: usize,
     pub compared: usize,
 }

@@ -1,0 +1,214 @@
+//! Generated cases, small ones, for which the definitions of crates/protocol
+//! compute what the evaluator answers. The cases are written into a crate of
+//! their own, beside copies of the crates they need, and `rt check` computes
+//! them there.
+
+use std::fs;
+use std::path::{Path, PathBuf};
+use std::process::Command;
+
+use evaluator::{decide, line_kind, match_pattern, normalise, program};
+use generator::{DecideCase, LineCase, MatchCase, NormaliseCase, ProgramCase, SEED};
+
+/// How many generated cases of each sort, and from how many they are taken.
+const CASES: usize = 160;
+const DRAWN: usize = 100_000;
+/// How many cases one statement computes.
+const AT_ONCE: usize = 50;
+/// No longer file, line or input, and no longer path or pattern, so that a
+/// case is computed in a fraction of a second.
+const LONGEST_FILE: usize = 160;
+const LONGEST_PATH: usize = 40;
+
+/// The crate's one proof file in front of the cases.
+const HEAD: &str = include_str!("definitions/head.txt");
+
+fn list(octets: &[u8]) -> String {
+    let mut text: String = octets.iter().map(|octet| format!("{octet} ∷ ")).collect();
+    text.insert(0, '(');
+    text.push_str("[])");
+    text
+}
+
+fn numbers(numbers: &[usize]) -> String {
+    let mut text: String = numbers.iter().map(|n| format!("{n} ∷ ")).collect();
+    text.insert(0, '(');
+    text.push_str("[])");
+    text
+}
+
+fn decided(case: &DecideCase) -> String {
+    let answer = decide(&case.file, &case.name, &case.path);
+    let expected = [
+        answer.refusal,
+        usize::from(answer.disallow),
+        answer.line,
+        answer.place,
+        answer.length,
+        answer.unread,
+        answer.compared,
+    ];
+    let (file, name, path) = (list(&case.file), list(&case.name), list(&case.path));
+    format!("decided {file} {name} {path} {}", numbers(&expected))
+}
+
+fn matched(case: &MatchCase) -> String {
+    let answer = match_pattern(&case.pattern, &case.path);
+    let found = usize::from(answer.found);
+    let expected = numbers(&[answer.refusal, found, answer.compared]);
+    let (pattern, path) = (list(&case.pattern), list(&case.path));
+    format!("matched {pattern} {path} {expected}")
+}
+
+fn told(case: &LineCase) -> String {
+    let answer = line_kind(&case.line);
+    let expected = [answer.refusal, answer.kind, answer.place, answer.length];
+    format!("told {} {}", list(&case.line), numbers(&expected))
+}
+
+fn normalised(case: &NormaliseCase) -> String {
+    let buffer: Vec<u8> = (0..case.room).map(|at| (at * 7 % 256) as u8).collect();
+    let mut after = buffer.clone();
+    let answer = normalise(&case.path, &mut after);
+    let expected = numbers(&[answer.refusal, answer.written]);
+    let (path, buffer) = (list(&case.path), list(&buffer));
+    format!("normalised {path} {buffer} {expected} {}", list(&after))
+}
+
+fn printed(case: &ProgramCase) -> String {
+    let output = program(&case.input);
+    format!("printed {} {}", list(&case.input), list(&output))
+}
+
+/// Generated questions for deciding; half of them compare something.
+fn decide_rows() -> impl Iterator<Item = String> {
+    let small = generator::decide_cases(SEED, DRAWN)
+        .filter(|case| case.file.len() <= LONGEST_FILE && case.path.len() <= LONGEST_PATH);
+    let (comparing, others): (Vec<_>, Vec<_>) = small
+        .take(10 * CASES)
+        .partition(|case| decide(&case.file, &case.name, &case.path).compared > 0);
+    let half = |cases: Vec<_>| cases.into_iter().take(CASES / 2);
+    half(comparing)
+        .chain(half(others))
+        .map(|case| decided(&case))
+}
+
+/// Generated cases of the other sorts.
+fn other_rows() -> impl Iterator<Item = String> {
+    let matches = generator::match_cases(SEED, DRAWN)
+        .filter(|case| case.pattern.len() <= LONGEST_PATH && case.path.len() <= LONGEST_PATH)
+        .map(|case| matched(&case));
+    let lines = generator::line_cases(SEED, DRAWN)
+        .filter(|case| case.line.len() <= LONGEST_FILE)
+        .map(|case| told(&case));
+    let paths = generator::normalise_cases(SEED, DRAWN)
+        .filter(|case| case.path.len() <= LONGEST_PATH && case.room <= 4 * LONGEST_PATH)
+        .map(|case| normalised(&case));
+    let inputs = generator::program_cases(SEED, DRAWN)
+        .filter(|case| case.input.len() <= LONGEST_FILE)
+        .map(|case| printed(&case));
+    let matches_and_lines = matches.take(CASES).chain(lines.take(CASES));
+    matches_and_lines
+        .chain(paths.take(CASES))
+        .chain(inputs.take(CASES))
+}
+
+/// Every octet as a name, and as the last octet of a path, a pattern, a
+/// rule's pattern and an agent's value.
+fn octet_rows() -> impl Iterator<Item = String> {
+    (0..=u8::MAX).flat_map(|octet| {
+        let after = |front: &[u8]| [front, &[octet]].concat();
+        [
+            decided(&DecideCase {
+                file: Vec::new(),
+                name: after(b""),
+                path: b"/".to_vec(),
+            }),
+            normalised(&NormaliseCase {
+                path: after(b"/"),
+                room: 5,
+            }),
+            matched(&MatchCase {
+                pattern: after(b"/"),
+                path: b"/".to_vec(),
+            }),
+            told(&LineCase {
+                line: after(b"allow:/"),
+            }),
+            told(&LineCase {
+                line: after(b"user-agent:"),
+            }),
+        ]
+    })
+}
+
+/// The statement that no case of these is wrong.
+fn statement(index: usize, cases: &[String]) -> String {
+    let rows = cases.join("\n    ∷ ");
+    format!(
+        "\nabbrev cases-{index} : List Case\ncases-{index} =\n    {rows}\n    ∷ []\n\n\
+         agree-{index} : wrong 0 cases-{index} ≡ []\nunfolding computing\nagree-{index} = refl\n"
+    )
+}
+
+fn copy(from: &Path, to: &Path) {
+    fs::create_dir_all(to).expect("a folder can be made");
+    for entry in fs::read_dir(from).expect("a folder can be read") {
+        let entry = entry.expect("an entry can be read");
+        let target = to.join(entry.file_name());
+        if entry.path().is_dir() {
+            copy(&entry.path(), &target);
+        } else {
+            fs::copy(entry.path(), target).expect("a file can be copied");
+        }
+    }
+}
+
+fn write(path: PathBuf, text: &str) {
+    fs::create_dir_all(path.parent().expect("a folder")).expect("a folder can be made");
+    fs::write(path, text).expect("a file can be written");
+}
+
+/// A folder outside the repository, where rt would take its files for lost
+/// ones. It goes when the test ends.
+struct Folder(PathBuf);
+
+impl Drop for Folder {
+    fn drop(&mut self) {
+        let _ = fs::remove_dir_all(&self.0);
+    }
+}
+
+/// The folder with the crate of cases.
+fn repository(proofs: &str) -> Folder {
+    let name = format!("definitions-{}", std::process::id());
+    let folder = Folder(std::env::temp_dir().join(name));
+    let crates = Path::new(env!("CARGO_MANIFEST_DIR")).join("../../crates");
+    for name in ["lists", "protocol"] {
+        copy(&crates.join(name), &folder.0.join("crates").join(name));
+    }
+    let cases = folder.0.join("crates/cases");
+    write(cases.join("src/lib.rt"), "// Generated cases.\n");
+    write(cases.join("proofs/Lib.antt"), "pub mod Generated\n");
+    write(cases.join("proofs/Generated.antt"), proofs);
+    let listed = "lists:\nprotocol: lists\ncases: lists protocol\n";
+    write(folder.0.join("crates.txt"), listed);
+    folder
+}
+
+#[test]
+fn the_definitions_compute_what_the_evaluator_answers() {
+    let generated = decide_rows().chain(other_rows());
+    let cases: Vec<String> = generated.chain(octet_rows()).collect();
+    assert_eq!(cases.len(), 5 * CASES + 5 * 256);
+    let statements = cases.chunks(AT_ONCE).enumerate();
+    let proofs: String = statements.map(|(at, some)| statement(at, some)).collect();
+    let folder = repository(&format!("{HEAD}{proofs}"));
+    let run = Command::new("rt")
+        .args(["check", "cases"])
+        .current_dir(&folder.0)
+        .output()
+        .expect("rt can be run");
+    let said = String::from_utf8_lossy(&run.stdout) + String::from_utf8_lossy(&run.stderr);
+    assert!(run.status.success(), "rt check cases: {said}");
+}
