@@ -2,7 +2,7 @@
 //! `data`. The form of those files is told in `data/README.md`.
 //!
 //! Each row holds a question, what the source prints, and what document 01
-//! answers. Nothing here evaluates anything.
+//! answers. Of the evaluator only the types of its answers are used here.
 
 mod answer;
 mod octets;
@@ -10,6 +10,7 @@ mod reader;
 
 use std::fmt;
 
+pub use evaluator::{Decision, LineKind, Matched};
 pub use reader::read;
 
 /// The data files, by name and content.
@@ -94,40 +95,11 @@ pub enum Expected {
     Line(LineKind),
 }
 
-/// Document 01's decision, whole.
-#[derive(Debug, Clone, Copy, PartialEq, Eq)]
-pub struct Decision {
-    pub refusal: usize,
-    pub disallow: bool,
-    pub line: usize,
-    pub place: usize,
-    pub length: usize,
-    pub unread: usize,
-    pub compared: usize,
-}
-
-/// The answer for one pattern and one path.
-#[derive(Debug, Clone, Copy, PartialEq, Eq)]
-pub struct Matched {
-    pub refusal: usize,
-    pub found: bool,
-    pub compared: usize,
-}
-
 /// The octets that normalising writes.
 #[derive(Debug, Clone, PartialEq, Eq)]
 pub struct Normalised {
     pub refusal: usize,
     pub octets: Vec<u8>,
-}
-
-/// The kind of one line. `kind` is a place in [`KINDS`].
-#[derive(Debug, Clone, Copy, PartialEq, Eq)]
-pub struct LineKind {
-    pub refusal: usize,
-    pub kind: usize,
-    pub place: usize,
-    pub length: usize,
 }
 
 /// A data file that can't be read, with the line at fault, from 1.

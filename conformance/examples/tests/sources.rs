@@ -3,7 +3,7 @@
 
 use std::collections::BTreeSet;
 
-use examples::{Decision, Example, Expected, LineKind, Matched, Normalised, Question};
+use examples::{Example, Expected, Normalised, Question};
 
 /// How many rows each data file has.
 const COUNTS: [(&str, usize); 4] = [
@@ -26,28 +26,6 @@ fn list() -> String {
     std::fs::read_to_string(path).expect("docs/EXAMPLES.md can be read")
 }
 
-fn decide(file: &[u8], name: &[u8], path: &[u8]) -> Expected {
-    let got = evaluator::decide(file, name, path);
-    Expected::Decide(Decision {
-        refusal: got.refusal,
-        disallow: got.disallow,
-        line: got.line,
-        place: got.place,
-        length: got.length,
-        unread: got.unread,
-        compared: got.compared,
-    })
-}
-
-fn match_pattern(pattern: &[u8], path: &[u8]) -> Expected {
-    let got = evaluator::match_pattern(pattern, path);
-    Expected::Match(Matched {
-        refusal: got.refusal,
-        found: got.found,
-        compared: got.compared,
-    })
-}
-
 fn normalise(path: &[u8]) -> Expected {
     let mut buffer = [UNTOUCHED; BUFFER];
     let got = evaluator::normalise(path, &mut buffer);
@@ -59,22 +37,16 @@ fn normalise(path: &[u8]) -> Expected {
     })
 }
 
-fn line_kind(line: &[u8]) -> Expected {
-    let got = evaluator::line_kind(line);
-    Expected::Line(LineKind {
-        refusal: got.refusal,
-        kind: got.kind,
-        place: got.place,
-        length: got.length,
-    })
-}
-
 fn ask(question: &Question) -> Expected {
     match question {
-        Question::Decide { file, name, path } => decide(file, name, path),
-        Question::Match { pattern, path } => match_pattern(pattern, path),
+        Question::Decide { file, name, path } => {
+            Expected::Decide(evaluator::decide(file, name, path))
+        }
+        Question::Match { pattern, path } => {
+            Expected::Match(evaluator::match_pattern(pattern, path))
+        }
         Question::Normalise { path } => normalise(path),
-        Question::Line { line } => line_kind(line),
+        Question::Line { line } => Expected::Line(evaluator::line_kind(line)),
     }
 }
 
