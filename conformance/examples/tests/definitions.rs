@@ -1,27 +1,35 @@
-//! The rows of crates/protocol/specs/Examples.antt, for which the proved
-//! definitions compute the given answers, against the independent evaluator.
+//! The rows of Examples.antt and OwnExamples.antt in crates/protocol/specs,
+//! for which the definitions are proved to compute the given answers, against
+//! the independent evaluator.
 
 mod rows;
 
 use rows::{Row, Scanner};
 
-/// How many rows of each sort the file has.
-const COUNTS: [(&str, usize); 6] = [
-    ("row", 51),
-    ("rowIn", 3),
+const FILES: [&str; 2] = ["Examples.antt", "OwnExamples.antt"];
+
+/// How many rows of each sort the files have.
+const COUNTS: [(&str, usize); 8] = [
+    ("row", 56),
+    ("rowIn", 5),
+    ("sizes", 4),
+    ("run", 8),
     ("located", 5),
-    ("lineRow", 29),
+    ("lineRow", 43),
     ("matchRow", 13),
     ("normalRow", 12),
 ];
 
 fn rows() -> Vec<Row> {
-    let path = concat!(
-        env!("CARGO_MANIFEST_DIR"),
-        "/../../crates/protocol/specs/Examples.antt"
-    );
-    let text = std::fs::read_to_string(path).expect("Examples.antt can be read");
-    rows::read(&text)
+    let specs = concat!(env!("CARGO_MANIFEST_DIR"), "/../../crates/protocol/specs");
+    let read = |file| {
+        let text = std::fs::read_to_string(format!("{specs}/{file}"));
+        rows::read(
+            file,
+            &text.unwrap_or_else(|fault| panic!("{file}: {fault}")),
+        )
+    };
+    FILES.into_iter().flat_map(read).collect()
 }
 
 /// A row of document 01's table or of ours: file, name, path, answer.
@@ -38,6 +46,20 @@ fn decide(row: &mut Scanner, file: Vec<u8>) {
         assert_eq!((got.disallow, got.line), (true, 0));
         assert_eq!((got.unread, got.compared), (0, 0));
     }
+}
+
+/// Octets of "x" as name, and behind a "/" as path; refusal.
+fn sizes(row: &mut Scanner) {
+    let name = vec![b'x'; row.number()];
+    let path = [b"/".to_vec(), vec![b'x'; row.number()]].concat();
+    let got = evaluator::decide(b"", &name, &path);
+    assert_eq!(row.number(), got.refusal);
+}
+
+/// The program's input and output.
+fn run(row: &mut Scanner) {
+    let got = evaluator::program(&row.octets());
+    assert_eq!(row.text(), got);
 }
 
 /// File, path, place and length of the deciding pattern, for the name a.
@@ -74,7 +96,7 @@ fn normalise(row: &mut Scanner) {
 #[test]
 fn the_evaluator_gives_every_row_of_the_definitions() {
     for row in rows() {
-        println!("Examples.antt, line {}: {}", row.line, row.text);
+        println!("{}:{}: {}", row.file, row.line, row.text);
         let mut rest = Scanner::new(&row.text);
         match rest.word().as_str() {
             "row" => {
@@ -85,6 +107,8 @@ fn the_evaluator_gives_every_row_of_the_definitions() {
                 let file = rest.octets();
                 decide(&mut rest, file);
             }
+            "sizes" => sizes(&mut rest),
+            "run" => run(&mut rest),
             "located" => locate(&mut rest),
             "lineRow" => line(&mut rest),
             "matchRow" => match_pattern(&mut rest),

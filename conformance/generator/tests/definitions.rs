@@ -142,6 +142,33 @@ fn octet_rows() -> impl Iterator<Item = String> {
     })
 }
 
+/// Every octet as either digit of an escape, and every octet escaped.
+fn escape_rows() -> impl Iterator<Item = String> {
+    (0..=u8::MAX).flat_map(|octet| {
+        let paths = [
+            [b"/%", [octet].as_slice(), b"4"].concat(),
+            [b"/%4", [octet].as_slice()].concat(),
+            format!("/%{octet:02x}").into_bytes(),
+        ];
+        paths.map(|path| normalised(&NormaliseCase { path, room: 9 }))
+    })
+}
+
+/// Patterns that hold every first octet of a longer character, with second
+/// octets on both sides of every limit and up to two more.
+fn character_rows() -> impl Iterator<Item = String> {
+    let seconds = [0x7F, 0x80, 0x8F, 0x90, 0x9F, 0xA0, 0xBF, 0xC0];
+    (0xC0..=u8::MAX).flat_map(move |first| {
+        seconds.into_iter().flat_map(move |second| {
+            [b"".as_slice(), b"\x80", b"\xBF\xBF"].map(|more| {
+                let pattern = [b"/", [first, second].as_slice(), more].concat();
+                let path = b"/".to_vec();
+                matched(&MatchCase { pattern, path })
+            })
+        })
+    })
+}
+
 /// The statement that no case of these is wrong.
 fn statement(index: usize, cases: &[String]) -> String {
     let rows = cases.join("\n    ∷ ");
@@ -198,9 +225,10 @@ fn repository(proofs: &str) -> Folder {
 
 #[test]
 fn the_definitions_compute_what_the_evaluator_answers() {
-    let generated = decide_rows().chain(other_rows());
-    let cases: Vec<String> = generated.chain(octet_rows()).collect();
-    assert_eq!(cases.len(), 5 * CASES + 5 * 256);
+    let generated: Vec<String> = decide_rows().chain(other_rows()).collect();
+    assert_eq!(generated.len(), 5 * CASES);
+    let systematic = octet_rows().chain(escape_rows()).chain(character_rows());
+    let cases: Vec<String> = generated.into_iter().chain(systematic).collect();
     let statements = cases.chunks(AT_ONCE).enumerate();
     let proofs: String = statements.map(|(at, some)| statement(at, some)).collect();
     let folder = repository(&format!("{HEAD}{proofs}"));

@@ -1,5 +1,5 @@
 -- Tests and parts of lists that the library lacks. Assumes nothing.
-use Prim.Native.Nat.{ℕ, _+_}
+use Prim.Native.Nat.{ℕ, zero, suc, _+_}
 use mathlib.Core.Bool.{Bool, true, false, _&&_, _||_}
 use mathlib.Core.List.{List, [], _∷_, _++_}
 use lib.Dec.{eqb}
@@ -39,6 +39,11 @@ module _ {A : Type 0} where
   unfoldable pub total : (A → ℕ) → List A → ℕ
   total f [] = 0
   total f (x ∷ l) = f x + total f l
+
+-- n numbers, from k on
+unfoldable pub numbersFrom : ℕ → ℕ → List ℕ
+numbersFrom k zero = []
+numbersFrom k (suc n) = k ∷ numbersFrom (k + 1) n
 
 -- element for element the same numbers
 unfoldable pub same : List ℕ → List ℕ → Bool

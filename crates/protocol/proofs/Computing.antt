@@ -1,5 +1,5 @@
 -- Names for what has to unfold so that the definitions compute: a proof by computation says `unfolding computing`. Assumes nothing.
-use Rattle.lists.specs.Lists.{all, any, kept, upTo, from, total, same}
+use Rattle.lists.specs.Lists.{all, any, kept, upTo, from, total, numbersFrom, same}
 use Rattle.protocol.specs.Octets.{upper, lower, digit, token, unreserved, hex, blank, lineEnd, lowerCase, upperCase, hexValue, hexDigit}
 use Rattle.protocol.specs.Text.{octets, begins, ends, sameIgnoringCase, lead, unlessAtEnd, trimEnd, trim, octetsAt}
 use Rattle.protocol.specs.Lines.{joined, put, linesFrom, marked, linesOf}
@@ -16,7 +16,7 @@ use Rattle.protocol.specs.Answers.{refusedDecision, unlessRefused, decid
 use Rattle.protocol.specs.Program.{decimalBefore, decimal, refusedText, sideText, answerText, textBy, firstPart, behind, decideInput, output}
 
 unfoldable pub texts : Unit {0}
-unfolding all any kept upTo from total same upper lower digit token unreserved hex blank lineEnd lowerCase upperCase hexValue hexDigit octets begins ends sameIgnoringCase lead unlessAtEnd trimEnd trim octetsAt
+unfolding all any kept upTo from total numbersFrom same upper lower digit token unreserved hex blank lineEnd lowerCase upperCase hexValue hexDigit octets begins ends sameIgnoringCase lead unlessAtEnd trimEnd trim octetsAt
 texts = tt
 
 unfoldable pub lines : Unit {0}

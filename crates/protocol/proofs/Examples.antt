@@ -1,9 +1,17 @@
 -- The worked examples, computed. Assumes nothing.
 use mathlib.Core.Path.{_≡_, refl}
-use mathlib.Core.List.{map}
-use Rattle.protocol.specs.Program.{output}
-use Rattle.protocol.specs.Examples.{asked, answer, workedTable, programInput, programOutput, ourTable}
-use Rattle.protocol.specs.Examples.{spanAsked, span, ourSpans, lineAsked, ourLines, matchAsked, matchAnswer, ourMatches, normalAsked, ourNormals}
+use mathlib.Core.List.{[], _∷_, map}
+use Rattle.protocol.specs.declared.Side.{Side}
+use Rattle.protocol.specs.Text.{octets}
+use Rattle.protocol.specs.Entries.{entries}
+use Rattle.protocol.specs.Answers.{sideNumber}
+use Rattle.protocol.specs.Program.{decimal, output}
+use Rattle.protocol.specs.Examples.{asked, answer, workedTable, programInput, programOutput}
+use Rattle.protocol.specs.OwnExamples.{ourTable, refusedAt, refusalAt, ourSizes, spanAsked, span, ourSpans}
+use Rattle.protocol.specs.OwnExamples.{entryNumbers, entriesFile, entriesNumbers, lineAsked, ourLines}
+use Rattle.protocol.specs.OwnExamples.{matchAsked, matchAnswer, ourMatches, walkAsked, walkAnswer, ourWalks, normalAsked, ourNormals}
+use Rattle.protocol.specs.OwnExamples.{outputAsked, outputOf, ourRuns, ourNumbers, ourDecimals}
+use Rattle.protocol.specs.OwnExamples.{sorted, members, ourSorts, changed, afterwards, ourChanges}
 use Rattle.protocol.proofs.Computing.{computing}
 
 -- document 01's table: "shown by a single computed statement over the list"
@@ -21,6 +29,26 @@ pub our-table : map asked ourTable ≡ map answer ourTable
 unfolding computing ourTable
 our-table = refl
 
+pub our-sizes : map refusedAt ourSizes ≡ map refusalAt ourSizes
+unfolding computing ourSizes
+our-sizes = refl
+
+pub our-runs : map outputAsked ourRuns ≡ map outputOf ourRuns
+unfolding computing ourRuns
+our-runs = refl
+
+pub our-numbers : map decimal ourNumbers ≡ map octets ourDecimals
+unfolding computing ourNumbers ourDecimals
+our-numbers = refl
+
+pub our-sides : map sideNumber (Side.Allow ∷ Side.Disallow ∷ []) ≡ 0 ∷ 1 ∷ []
+unfolding computing
+our-sides = refl
+
+pub our-entries : map entryNumbers (entries entriesFile) ≡ entriesNumbers
+unfolding computing entriesFile entriesNumbers
+our-entries = refl
+
 pub our-spans : map spanAsked ourSpans ≡ map span ourSpans
 unfolding computing ourSpans
 our-spans = refl
@@ -33,6 +61,19 @@ pub our-matches : map matchAsked ourMatches ≡ map matchAnswer ourMatches
 unfolding computing ourMatches
 our-matches = refl
 
+pub our-walks : map walkAsked ourWalks ≡ map walkAnswer ourWalks
+unfolding computing ourWalks
+our-walks = refl
+
 pub our-normals : map normalAsked ourNormals ≡ ourNormals
 unfolding computing ourNormals
 our-normals = refl
+
+-- the sorts of octets, over all 256
+pub our-sorts : map sorted ourSorts ≡ map members ourSorts
+unfolding computing ourSorts
+our-sorts = refl
+
+pub our-changes : map changed ourChanges ≡ map afterwards ourChanges
+unfolding computing ourChanges
+our-changes = refl

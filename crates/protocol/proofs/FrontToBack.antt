@@ -55,6 +55,7 @@ module _ (n p c : ℕ) (l : List ℕ) where
   unfolding linesFrom put
   lines-joined e = rw e
 
+module _ (c : ℕ) (l : List ℕ) where
   ending-one : closes c (begins "\n" l) ≡ true → endingLength (c ∷ l) ≡ 1
   unfolding endingLength
   ending-one e = rw e
@@ -62,6 +63,11 @@ module _ (n p c : ℕ) (l : List ℕ) where
   ending-two : closes c (begins "\n" l) ≡ false → endingLength (c ∷ l) ≡ 2
   unfolding endingLength
   ending-two e = rw e
+
+  -- one octet of the text more
+  length-on : lineEnd c ≡ false → lineLength (c ∷ l) ≡ suc (lineLength l)
+  unfolding lineLength
+  length-on g = rw (upTo-on lineEnd c l g, from-on lineEnd c l g) (omega arith)
 
 -- the first line, and the lines behind it
 Front : ℕ → ℕ → List ℕ → Type 0
@@ -73,12 +79,7 @@ module _ (n p c : ℕ) (l : List ℕ) where
   unfolding Front lineLength
   front-closed e =
       let g = closing-ends c (begins "\n" l) e in
-      rw (upTo-stop lineEnd c l g, from-stop lineEnd c l g, ending-one n p c l e) (lines-closed n p c l e)
-
-  -- an octet of the text, in front of a line or at the end of the file
-  length-on : lineEnd c ≡ false → lineLength (c ∷ l) ≡ suc (lineLength l)
-  unfolding lineLength
-  length-on g = rw (upTo-on lineEnd c l g, from-on lineEnd c l g) (omega arith)
+      rw (upTo-stop lineEnd c l g, from-stop lineEnd c l g, ending-one c l e) (lines-closed n p c l e)
 
 lf-closes : (d : ℕ) (lf : Bool) → is "\n" d ≡ true → closes d lf ≡ true
 lf-closes d lf e = ap (λ (b : Bool). b || (is "\r" d && not lf)) e
@@ -89,7 +90,7 @@ unfolding Front lineLength begins joined
 front-cr-lf n p c d l e g =
     let cr = open-cr c (is "\n" d) e g in
     let q : p + 1 + 1 ≡ p + 2 = omega arith in
-    rw (upTo-stop lineEnd c (d ∷ l) g, from-stop lineEnd c (d ∷ l) g, ending-two n p c (d ∷ l) e)
+    rw (upTo-stop lineEnd c (d ∷ l) g, from-stop lineEnd c (d ∷ l) g, ending-two c (d ∷ l) e)
     (lines-joined n p c (d ∷ l) e ∙ rw (cr .0, lines-closed n (p + 1) d l (lf-closes d (begins "\n" l) (cr .1)), q))
 
 -- an octet of the text in front of a line
@@ -98,14 +99,14 @@ unfolding Front joined
 front-text n p c l g ih =
     let o = open-text c (begins "\n" l) g in
     let q : p + 1 + lineLength l ≡ p + suc (lineLength l) = omega arith in
-    rw (length-on n p c l g, upTo-on lineEnd c l g) (lines-joined n p c l (o .1) ∙ rw (o .0, ih, q))
+    rw (length-on c l g, upTo-on lineEnd c l g) (lines-joined n p c l (o .1) ∙ rw (o .0, ih, q))
 
 -- and at the end of the file
 front-last : (n p c : ℕ) → lineEnd c ≡ false → Front n p (c ∷ [])
 unfolding Front joined linesFrom upTo lineLength from endingLength
 front-last n p c g =
     let o = open-text c (begins "\n" []) g in
-    rw (length-on n p c [] g, upTo-on lineEnd c [] g) (lines-joined n p c [] (o .1) ∙ rw (o .0))
+    rw (length-on c [] g, upTo-on lineEnd c [] g) (lines-joined n p c [] (o .1) ∙ rw (o .0))
 
 front : (n p c : ℕ) (l : List ℕ) → Front n p (c ∷ l)
 unfolding begins
@@ -115,6 +116,25 @@ front n p c [] =
 front n p c (d ∷ l) =
     split (closes c (is "\n" d)) (λ e. front-closed n p c (d ∷ l) e)
     (λ e. split (lineEnd c) (λ g. front-cr-lf n p c d l e g) (λ g. front-text n p c (d ∷ l) g (front n (p + 1) d l)))
+
+-- a line and its ending are no more than what is left
+ending-fits : (c : ℕ) (l : List ℕ) → lineEnd c ≡ true → endingLength (c ∷ l) ≤ suc (length l)
+unfolding begins
+ending-fits c l g =
+    split (closes c (begins "\n" l)) (λ e. rw (ending-one c l e) (omega arith))
+    (λ e. rw (ending-two c l e) (go l (open-cr c (begins "\n" l) e g .1)))
+  where
+    go : (m : List ℕ) → begins "\n" m ≡ true → 2 ≤ suc (length m)
+    go [] h = absurd (true≢false (sym h))
+    go (d ∷ m) h = omega arith
+
+pub line-fits : (l : List ℕ) → lineLength l ≤ length l
+unfolding lineLength upTo from endingLength
+line-fits [] = omega arith
+line-fits (c ∷ l) =
+    split (lineEnd c)
+    (λ g. rw (upTo-stop lineEnd c l g, from-stop lineEnd c l g) (omega (arith, ending-fits c l g)))
+    (λ g. rw (length-on c l g) (omega (arith, line-fits l)))
 
 -- The lines from a place of the file on: none at the file's end;
 pub lines-end : (file : List ℕ) (n p : ℕ) → length file ≤ p → linesFrom n p (drop p file) ≡ []

@@ -5,3 +5,4 @@ pub mod Values
 pub mod Inside
 pub mod Sizes
 pub mod Unread
+pub mod Limits

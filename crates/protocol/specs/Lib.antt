@@ -14,3 +14,4 @@ pub mod Decision
 pub mod Answers
 pub mod Program
 pub mod Examples
+pub mod OwnExamples

@@ -12,14 +12,15 @@ use Rattle.protocol.specs.Text.{octets}
 use Rattle.protocol.specs.Refusals.{inputTooLong}
 use Rattle.protocol.specs.Answers.{decide}
 
--- n in decimal, in front of l; k is at least the number of digits but one
+-- n in decimal, in front of l, in at most k + 1 digits
 unfoldable pub decimalBefore : ℕ → ℕ → List ℕ → List ℕ
 decimalBefore zero n l = (code "0" + n % 10) ∷ l
 decimalBefore (suc k) n l =
     if ltb n 10 then (code "0" + n % 10) ∷ l else decimalBefore k (n / 10) ((code "0" + n % 10) ∷ l)
 
+-- a number below 10 to the power of 20, as every number of an answer is
 unfoldable pub decimal : ℕ → List ℕ
-decimal n = decimalBefore n n []
+decimal n = decimalBefore 19 n []
 
 -- "A refusal prints `refused 3` and LF, with its number"
 unfoldable pub refusedText : ℕ → List ℕ
@@ -60,4 +61,4 @@ decideInput input = decide (behind (behind input)) (firstPart input) (firstPart 
 unfoldable pub output : List ℕ → List ℕ
 output input =
     let d = decideInput input in
-    if inputTooLong input .given then refusedText 7 else textBy (d .refusal) d
+    if inputTooLong input .given then refusedText (inputTooLong input .number) else textBy (d .refusal) d

@@ -1,8 +1,9 @@
-//! Reads the rows of a table of Examples.antt: one row to a line, moved in by
+//! Reads the rows of the definitions' tables: one row to a line, moved in by
 //! four spaces, behind `∷` but for the first.
 
 /// A row and where it stands.
 pub struct Row {
+    pub file: &'static str,
     pub line: usize,
     pub text: String,
 }
@@ -14,22 +15,25 @@ impl Row {
     }
 }
 
-const SORTS: [&str; 6] = [
+const SORTS: [&str; 8] = [
     "row",
     "rowIn",
+    "sizes",
+    "run",
     "located",
     "lineRow",
     "matchRow",
     "normalRow",
 ];
 
-pub fn read(text: &str) -> Vec<Row> {
+pub fn read(file: &'static str, text: &str) -> Vec<Row> {
     let numbered = text.lines().enumerate();
     numbered
         .filter_map(|(at, line)| {
             let inner = line.strip_prefix("    ")?;
             let text = inner.strip_prefix("∷ ").unwrap_or(inner).to_string();
-            let row = Row { line: at + 1, text };
+            let line = at + 1;
+            let row = Row { file, line, text };
             SORTS.contains(&row.sort()).then_some(row)
         })
         .collect()
@@ -76,7 +80,7 @@ impl<'a> Scanner<'a> {
     }
 
     pub fn number(&mut self) -> usize {
-        let word = self.word();
+        let word = self.word().replace('_', "");
         let number = match word.strip_prefix("0x") {
             Some(hex) => usize::from_str_radix(hex, 16),
             None => word.parse(),
@@ -110,8 +114,9 @@ impl<'a> Scanner<'a> {
         self.text().into_iter().map(line_feed).collect()
     }
 
-    /// Octets: `[]`, `mark`, `octets "…"`, `lines "…"`, or some of these and
-    /// lists of numerals in parentheses, joined by `++`.
+    /// Octets: `[]`, `mark`, `octets "…"`, `lines "…"`, `many 9` (so many of
+    /// "x"), or some of these and lists of numerals in parentheses, joined by
+    /// `++`.
     pub fn octets(&mut self) -> Vec<u8> {
         if self.skip("(") {
             let octets = self.joined();
@@ -123,6 +128,7 @@ impl<'a> Scanner<'a> {
             "mark" => vec![0xEF, 0xBB, 0xBF],
             "octets" => self.text(),
             "lines" => self.text_of_lines(),
+            "many" => vec![b'x'; self.number()],
             other => panic!("octets expected, not {other}"),
         }
     }

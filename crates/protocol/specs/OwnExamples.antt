@@ -1,0 +1,456 @@
+-- Worked examples of ours: what document 01 rules out by name and its table lets pass, and what its table doesn't touch.
+-- proofs/Examples.antt computes them. Assumes nothing.
+use Prim.Native.Nat.{ℕ}
+use Prim.Native.Char.{code}
+use Prim.Native.String.{String}
+use mathlib.Core.Bool.{Bool, true, false, not}
+use mathlib.Core.List.{List, [], _∷_, _++_, map}
+use lib.Dec.{eqb}
+use lib.ListN.{replicate}
+use Rattle.lists.specs.Lists.{kept, numbersFrom}
+use Rattle.protocol.specs.declared.Side.{Side}
+use Rattle.protocol.specs.declared.Matched.{Matched}
+use Rattle.protocol.specs.declared.Walked.{Walked}
+use Rattle.protocol.specs.Octets.{token, unreserved, hex, blank, lineEnd, lowerCase, upperCase, hexValue, hexDigit}
+use Rattle.protocol.specs.Text.{octets}
+use Rattle.protocol.specs.Entries.{Role, agent, rule, Entry}
+use Rattle.protocol.specs.Pattern.{shapeOf}
+use Rattle.protocol.specs.Walk.{walk}
+use Rattle.protocol.specs.Answers.{decide, matchOf, normaliseOf, normaliseBuffer, lineAnswer, refusalOf, kindNumberOf, valuePlace, valueLength}
+use Rattle.protocol.specs.Program.{output}
+use Rattle.protocol.specs.Examples.{allow, disallow, refused, Row, lines, rowIn, row}
+
+-- "EF BB BF"
+abbrev pub mark : List ℕ
+mark = 0xEF ∷ 0xBB ∷ 0xBF ∷ []
+
+-- Deciding
+unfoldable pub ourTable : List Row
+ourTable =
+    -- the heaviest match decides, wherever it stands, and not the first
+    row "user-agent: *|allow: /p|disallow: /page" "a" "/page" (disallow 3 0 7)
+    ∷ row "user-agent: *|disallow: /page|allow: /p" "a" "/page" (disallow 2 0 7)
+    -- at equal weight allow, and then the earliest line
+    ∷ row "user-agent: *|allow: /a|disallow: /a" "a" "/a" (allow 2 0 4)
+    ∷ row "user-agent: *|disallow: /a|disallow: /a" "a" "/a" (disallow 2 0 4)
+    -- weight is of the normalised pattern
+    ∷ row "user-agent: *|allow: /%41%41|disallow: /AAA" "a" "/AAAx" (disallow 3 0 7)
+    -- a star weighs one, and so does the end mark
+    ∷ row "user-agent: *|disallow: /ab|allow: /a*" "a" "/ab" (allow 3 0 5)
+    ∷ row "user-agent: *|allow: /ab|disallow: /a*" "a" "/ab" (allow 2 0 5)
+    ∷ row "user-agent: *|allow: /ab|disallow: /ab$" "a" "/ab" (disallow 3 0 6)
+    ∷ row "user-agent: *|allow: /a*b|disallow: /ab$" "a" "/ab" (allow 2 0 6)
+    -- %2F and %2A aren't decoded
+    ∷ row "user-agent: *|disallow: /a%2fb" "a" "/a/bxx" (allow 0 0 3)
+    ∷ row "user-agent: *|disallow: /a%2ab" "a" "/a*b" (disallow 2 0 6)
+    ∷ row "user-agent: *|disallow: /a%2ab" "a" "/axxxb" (allow 0 0 3)
+    -- an unreadable or empty rule line divides groups; so does no other line
+    ∷ row "user-agent: a|allow: x|user-agent: b|disallow: /" "a" "/" (allow 0 1 0)
+    ∷ row "user-agent: a|disallow:|user-agent: b|disallow: /" "a" "/" (allow 0 0 0)
+    ∷ row "user-agent: a||# x|x|:|user-agent: b|disallow: /" "a" "/" (disallow 7 0 1)
+    -- an agent line with nothing behind its colon is unreadable, and joins or starts a group all the same
+    ∷ row "user-agent:|disallow: /" "a" "/" (allow 0 1 0)
+    ∷ row "user-agent: a|user-agent: a/1|disallow: /" "a" "/" (disallow 3 1 1)
+    -- the "*" groups' rules aren't added to a named group's, be that group without rules
+    ∷ row "user-agent: a|disallow: /x|user-agent: *|disallow: /" "a" "/y" (allow 0 0 2)
+    ∷ row "user-agent: *|disallow: /|user-agent: a" "a" "/y" (allow 0 0 0)
+    -- all groups that name the crawler, each once
+    ∷ row "user-agent: a|disallow: /x|user-agent: b|disallow: /|user-agent: A|disallow: /y" "a" "/y" (disallow 6 0 4)
+    ∷ row "user-agent: a|user-agent: A|disallow: /" "a" "/" (disallow 3 0 1)
+    -- a rule before the first agent line is in no group
+    ∷ row "disallow: /|user-agent: *|allow: /x" "a" "/y" (allow 0 0 2)
+    -- a "$" that isn't last is no end mark, and "%24" is none; of "$$" the last is
+    ∷ row "user-agent: *|disallow: /a$b" "a" "/a$bc" (disallow 2 0 6)
+    ∷ row "user-agent: *|disallow: /a%24" "a" "/a$b" (disallow 2 0 5)
+    ∷ row "user-agent: *|disallow: /a$$" "a" "/a$" (disallow 2 0 5)
+    ∷ row "user-agent: *|disallow: /a$$" "a" "/a$b" (allow 0 0 0)
+    -- the end mark is taken off before normalising
+    ∷ row "user-agent: *|disallow: /a%2$" "a" "/a%2" (disallow 2 0 6)
+    -- one run with an end mark fails at no cost unless its length is the path's
+    ∷ row "user-agent: *|disallow: /a$" "a" "/ab" (allow 0 0 0)
+    ∷ row "user-agent: *|disallow: /ab$" "a" "/a" (allow 0 0 0)
+    -- a star may stop inside a %XX, and may stand for nothing
+    ∷ row "user-agent: *|disallow: /*4$" "a" "/$" (disallow 2 0 2)
+    ∷ row "user-agent: *|disallow: /a**b*" "a" "/ab" (disallow 2 0 3)
+    -- CR LF is one ending, LF CR is two, and CR alone is one
+    ∷ row "user-agent: a\r|disallow: /" "a" "/" (disallow 2 0 1)
+    ∷ row "user-agent: a|\rdisallow: /" "a" "/" (disallow 3 0 1)
+    ∷ row "user-agent: a\rdisallow: /" "a" "/" (disallow 2 0 1)
+    -- a leading mark is skipped, once
+    ∷ rowIn (mark ++ lines "user-agent: a|disallow: /") "a" "/" (disallow 2 0 1)
+    ∷ rowIn (mark ++ mark ++ lines "user-agent: a|disallow: /") "a" "/" (allow 0 0 0)
+    ∷ rowIn mark "a" "/" (allow 0 0 0)
+    ∷ rowIn ((0xEF ∷ 0x20 ∷ 0x20 ∷ []) ++ lines "user-agent: a|disallow: /") "a" "/" (allow 0 0 0)
+    ∷ rowIn ((0x20 ∷ 0x20 ∷ 0xBF ∷ []) ++ lines "user-agent: a|disallow: /") "a" "/" (allow 0 0 0)
+    -- comments, spaces and tabs
+    ∷ row "\tUser-Agent : a # b|disallow:/ # c" "a" "/" (disallow 2 0 1)
+    -- NUL is an octet like any other
+    ∷ row "user-agent: a|allow\0: /|disallow: /" "a" "/" (disallow 3 0 1)
+    -- /robots.txt is allowed with the whole file's unread count, and nothing is compared; with a query it is another path
+    ∷ row "user-agent: *|disallow: x|disallow: /" "a" "/robots.txt" (allow 0 1 0)
+    ∷ row "user-agent: *|disallow: /" "a" "/robots.txt?x" (disallow 2 0 1)
+    -- refusals, the smallest number first
+    ∷ row "user-agent: *|allow: /" "" "" (refused 2)
+    ∷ row "user-agent: *|allow: /" "a1" "/" (refused 2)
+    ∷ row "user-agent: *|allow: /" "a" "" (refused 3)
+    ∷ row "user-agent: *|allow: /" "a" "a b" (refused 4)
+    ∷ row "user-agent: *|allow: /" "a" "/a b" (refused 5)
+    ∷ row "user-agent: *|allow: /" "a" "/a#b" (refused 5)
+    ∷ row "user-agent: *|disallow: /!" "a" "/!" (disallow 2 0 2)
+    ∷ []
+
+-- Just inside a limit, and one octet more: so many octets of "x" as name, and behind a "/" as path
+pub record Sizes : Type 0 where
+  pub name : ℕ
+  pub path : ℕ
+  pub refusal : ℕ
+
+abbrev pub sizes : ℕ → ℕ → ℕ → Sizes
+sizes n p r = record { name = n; path = p; refusal = r }
+
+abbrev pub many : ℕ → List ℕ
+many n = replicate n (code "x")
+
+abbrev pub refusedAt : Sizes → ℕ
+refusedAt s = decide [] (many (s .name)) (code "/" ∷ many (s .path)) .refusal
+
+abbrev pub refusalAt : Sizes → ℕ
+refusalAt s = s .refusal
+
+unfoldable pub ourSizes : List Sizes
+ourSizes =
+    sizes 64 0 0
+    ∷ sizes 65 0 2
+    ∷ sizes 1 2_047 0
+    ∷ sizes 1 2_048 3
+    ∷ []
+
+-- The program's input and output
+pub record Run : Type 0 where
+  pub input : List ℕ
+  pub output : List ℕ
+
+abbrev pub run : List ℕ → String → Run
+run i o = record { input = i; output = octets o }
+
+abbrev pub outputAsked : Run → List ℕ
+outputAsked r = output (r .input)
+
+abbrev pub outputOf : Run → List ℕ
+outputOf r = r .output
+
+unfoldable pub ourRuns : List Run
+ourRuns =
+    run (many 65_536) "refused 2\n"
+    ∷ run (many 65_537) "refused 7\n"
+    ∷ run [] "refused 2\n"
+    ∷ run (octets "a") "refused 3\n"
+    ∷ run (octets "a\n/") "allow line 0 unread 0 compared 0\n"
+    ∷ run (octets "a\n/\n") "allow line 0 unread 0 compared 0\n"
+    ∷ run (octets "a\n/\r\nuser-agent: a") "refused 5\n"
+    ∷ run (octets "a\n/x\n\nuser-agent: a\ndisallow: x\ndisallow: /x") "disallow line 4 unread 1 compared 2\n"
+    ∷ []
+
+-- Numbers in decimal
+unfoldable pub ourNumbers : List ℕ
+ourNumbers = 0 ∷ 1 ∷ 8 ∷ 9 ∷ 10 ∷ 11 ∷ 19 ∷ 90 ∷ 99 ∷ 100 ∷ 101 ∷ 987 ∷ 1_000 ∷ 9_434_112_000 ∷ 18_446_744_073_709_551_615 ∷ 98_765_432_109_876_543_210 ∷ []
+
+unfoldable pub ourDecimals : List String
+ourDecimals =
+    "0" ∷ "1" ∷ "8" ∷ "9" ∷ "10" ∷ "11" ∷ "19" ∷ "90" ∷ "99" ∷ "100" ∷ "101" ∷ "987" ∷ "1000" ∷ "9434112000" ∷ "18446744073709551615" ∷ "98765432109876543210" ∷ []
+
+-- Entries as numbers: line, group, role (0 agent, 1 allow, 2 disallow), place, length
+abbrev pub roleNumber : Role → ℕ
+roleNumber agent = 0
+roleNumber (rule Side.Allow) = 1
+roleNumber (rule Side.Disallow) = 2
+
+abbrev pub entryNumbers : Entry → List ℕ
+entryNumbers e = e .line .number ∷ e .group ∷ roleNumber (e .role) ∷ e .place .offset ∷ e .length ∷ []
+
+unfoldable pub entriesFile : List ℕ
+entriesFile =
+    mark
+    ++ lines "allow: /x|"
+    ++ lines "user-agent: a|"
+    ++ lines "User-Agent:|"
+    ++ lines "disallow: /y|"
+    ++ lines "sitemap: z|"
+    ++ lines "user-agent: b|"
+    ++ lines "allow:|"
+    ++ lines "disallow: z|"
+    ++ lines "user-agent: *"
+
+unfoldable pub entriesNumbers : List (List ℕ)
+entriesNumbers =
+    (1 ∷ 0 ∷ 1 ∷ 10 ∷ 2 ∷ [])
+    ∷ (2 ∷ 1 ∷ 0 ∷ 25 ∷ 1 ∷ [])
+    ∷ (3 ∷ 1 ∷ 0 ∷ 0 ∷ 0 ∷ [])
+    ∷ (4 ∷ 1 ∷ 2 ∷ 49 ∷ 2 ∷ [])
+    ∷ (6 ∷ 2 ∷ 0 ∷ 75 ∷ 1 ∷ [])
+    ∷ (7 ∷ 2 ∷ 1 ∷ 0 ∷ 0 ∷ [])
+    ∷ (8 ∷ 2 ∷ 2 ∷ 94 ∷ 1 ∷ [])
+    ∷ (9 ∷ 3 ∷ 0 ∷ 108 ∷ 1 ∷ [])
+    ∷ []
+
+-- Where the deciding rule's pattern stands: its place and length in the file
+pub record Located : Type 0 where
+  pub file : List ℕ
+  pub path : String
+  pub place : ℕ
+  pub length : ℕ
+
+pub record Span : Type 0 where
+  pub place : ℕ
+  pub length : ℕ
+
+abbrev pub located : List ℕ → String → ℕ → ℕ → Located
+located f p q n = record { file = f; path = p; place = q; length = n }
+
+abbrev pub spanAsked : Located → Span
+spanAsked r =
+    let d = decide (r .file) (octets "a") (octets (r .path)) in
+    record { place = d .place .offset; length = d .length }
+
+abbrev pub span : Located → Span
+span r = record { place = r .place; length = r .length }
+
+unfoldable pub ourSpans : List Located
+ourSpans =
+    located (lines "user-agent: *|disallow:  /%41$ |") "/A" 25 5
+    ∷ located (mark ++ lines "user-agent: *\r|disallow: /a") "/a" 28 2
+    ∷ located (lines "user-agent: *|disallow:") "/a" 0 0
+    ∷ located (lines "user-agent: *|disallow: /b") "/a" 0 0
+    ∷ located (lines "user-agent: *|disallow: /a") "a" 0 0
+    ∷ []
+
+-- One line: its refusal, the number of its kind, and its value's place and length
+pub record LineRow : Type 0 where
+  pub line : List ℕ
+  pub refusal : ℕ
+  pub kind : ℕ
+  pub place : ℕ
+  pub length : ℕ
+
+abbrev pub lineRow : List ℕ → ℕ → ℕ → ℕ → ℕ → LineRow
+lineRow l r k p n = record { line = l; refusal = r; kind = k; place = p; length = n }
+
+abbrev pub lineAsked : LineRow → LineRow
+lineAsked r =
+    let a = lineAnswer (r .line) in
+    record {
+      line = r .line;
+      refusal = refusalOf a;
+      kind = kindNumberOf a;
+      place = valuePlace a .offset;
+      length = valueLength a;
+    }
+
+unfoldable pub ourLines : List LineRow
+ourLines =
+    lineRow [] 0 1 0 0
+    ∷ lineRow (octets " \t# a: b") 0 1 0 0
+    ∷ lineRow (octets "allow /# :") 0 2 0 0
+    ∷ lineRow (octets ":") 0 3 0 0
+    ∷ lineRow (octets "sitemap: /") 0 3 0 0
+    ∷ lineRow (octets "user-agent: a-B_c") 0 4 12 5
+    ∷ lineRow (octets "\tUSER-AGENT :* # a") 0 4 13 1
+    ∷ lineRow (octets "user-agent:") 0 5 0 0
+    ∷ lineRow (octets "user-agent: a b") 0 5 12 3
+    ∷ lineRow (octets "user-agent: **") 0 5 12 2
+    ∷ lineRow (octets "allow: # a") 0 6 0 0
+    ∷ lineRow (octets "Allow:/a:b") 0 7 6 4
+    ∷ lineRow (octets "allow: a/") 0 8 7 2
+    ∷ lineRow (octets "disallow:\t") 0 9 0 0
+    ∷ lineRow (octets "  disallow : /a# b") 0 10 13 2
+    ∷ lineRow (octets "disallow: /a b") 0 11 10 4
+    -- well-formed: the first and the last character of each form
+    ∷ lineRow (octets "allow:/" ++ (0x21 ∷ 0x22 ∷ 0x24 ∷ 0x7F ∷ 0xC2 ∷ 0x80 ∷ 0xDF ∷ 0xBF ∷ [])) 0 7 6 9
+    ∷ lineRow (octets "allow:/" ++ (0xE0 ∷ 0xA0 ∷ 0x80 ∷ 0xED ∷ 0x9F ∷ 0xBF ∷ 0xEE ∷ 0x80 ∷ 0x80 ∷ 0xEF ∷ 0xBF ∷ 0xBF ∷ [])) 0 7 6 13
+    ∷ lineRow (octets "allow:/" ++ (0xE0 ∷ 0xBF ∷ 0xBF ∷ 0xE1 ∷ 0x80 ∷ 0x80 ∷ 0xEC ∷ 0xBF ∷ 0xBF ∷ 0xED ∷ 0x80 ∷ 0x80 ∷ [])) 0 7 6 13
+    ∷ lineRow (octets "allow:/" ++ (0xF0 ∷ 0x90 ∷ 0x80 ∷ 0x80 ∷ 0xF4 ∷ 0x8F ∷ 0xBF ∷ 0xBF ∷ [])) 0 7 6 9
+    ∷ lineRow (octets "allow:/" ++ (0xF0 ∷ 0xBF ∷ 0xBF ∷ 0xBF ∷ 0xF1 ∷ 0x80 ∷ 0x80 ∷ 0x80 ∷ [])) 0 7 6 9
+    ∷ lineRow (octets "allow:/" ++ (0xF3 ∷ 0xBF ∷ 0xBF ∷ 0xBF ∷ 0xF4 ∷ 0x80 ∷ 0x80 ∷ 0x80 ∷ [])) 0 7 6 9
+    -- a control octet, a lone tail, a character cut short, overlong forms, a surrogate, and what is past U+10FFFF
+    ∷ lineRow (octets "allow:/" ++ (0x1F ∷ [])) 0 8 6 2
+    ∷ lineRow (octets "allow:/" ++ (0x80 ∷ [])) 0 8 6 2
+    ∷ lineRow (octets "allow:/" ++ (0x80 ∷ 0x00 ∷ [])) 0 8 6 3
+    ∷ lineRow (octets "allow:/" ++ (0x80 ∷ 0x01 ∷ [])) 0 8 6 3
+    ∷ lineRow (octets "allow:/" ++ (0xC2 ∷ 0x7F ∷ [])) 0 8 6 3
+    ∷ lineRow (octets "allow:/" ++ (0xC2 ∷ 0xC0 ∷ [])) 0 8 6 3
+    ∷ lineRow (octets "allow:/" ++ (0xE1 ∷ 0x80 ∷ [])) 0 8 6 3
+    ∷ lineRow (octets "allow:/" ++ (0xC1 ∷ 0xBF ∷ [])) 0 8 6 3
+    ∷ lineRow (octets "allow:/" ++ (0xE0 ∷ 0x9F ∷ 0xBF ∷ [])) 0 8 6 4
+    ∷ lineRow (octets "allow:/" ++ (0xF0 ∷ 0x8F ∷ 0xBF ∷ 0xBF ∷ [])) 0 8 6 5
+    ∷ lineRow (octets "allow:/" ++ (0xED ∷ 0xA0 ∷ 0x80 ∷ [])) 0 8 6 4
+    ∷ lineRow (octets "allow:/" ++ (0xF4 ∷ 0x90 ∷ 0x80 ∷ 0x80 ∷ [])) 0 8 6 5
+    ∷ lineRow (octets "allow:/" ++ (0xF5 ∷ 0x80 ∷ 0x80 ∷ 0x80 ∷ [])) 0 8 6 5
+    -- a second octet that is no tail
+    ∷ lineRow (octets "allow:/" ++ (0xE0 ∷ 0xC0 ∷ 0x80 ∷ [])) 0 8 6 4
+    ∷ lineRow (octets "allow:/" ++ (0xED ∷ 0x7F ∷ 0x80 ∷ [])) 0 8 6 4
+    ∷ lineRow (octets "allow:/" ++ (0xF0 ∷ 0xC0 ∷ 0x80 ∷ 0x80 ∷ [])) 0 8 6 5
+    ∷ lineRow (octets "allow:/" ++ (0xF4 ∷ 0x7F ∷ 0x80 ∷ 0x80 ∷ [])) 0 8 6 5
+    -- no leading mark is skipped, and padding is no part of a field name
+    ∷ lineRow (mark ++ octets "allow: /") 0 3 0 0
+    ∷ lineRow (octets "allow\0\0\0\0\0: /") 0 3 0 0
+    ∷ lineRow (octets "allow: /\n") 9 0 0 0
+    ∷ lineRow (octets "# \r") 9 0 0 0
+    ∷ []
+
+-- One pattern and one path: refusal, yes or no, count
+pub record MatchRow : Type 0 where
+  pub pattern : String
+  pub path : String
+  pub answer : Matched
+
+abbrev pub matchRow : String → String → ℕ → Bool → ℕ → MatchRow
+matchRow q p r b n = record { pattern = q; path = p; answer = record { refusal = r; found = b; compared = n } }
+
+abbrev pub matchAsked : MatchRow → Matched
+matchAsked r = matchOf (octets (r .pattern)) (octets (r .path))
+
+abbrev pub matchAnswer : MatchRow → Matched
+matchAnswer r = r .answer
+
+unfoldable pub ourMatches : List MatchRow
+ourMatches =
+    -- a run that is placed is never moved: "b" stands at 2, and "bc" is sought behind it
+    matchRow "/*b*bc" "/abxbc" 0 true 6
+    -- the last run of an end-marked pattern has one start
+    ∷ matchRow "/*b$" "/abab" 0 true 2
+    ∷ matchRow "/*ab*b$" "/ab" 0 false 3
+    ∷ matchRow "/a*$" "/a" 0 true 2
+    -- a try that would pass the end fails at no cost
+    ∷ matchRow "/aaa" "/a" 0 false 0
+    ∷ matchRow "/*aab" "/aaac" 0 false 7
+    -- /robots.txt is a path like any other
+    ∷ matchRow "/" "/robots.txt" 0 true 1
+    ∷ matchRow "/" "" 3 false 0
+    ∷ matchRow "" "a" 4 false 0
+    ∷ matchRow "" "/ " 5 false 0
+    ∷ matchRow "" "/" 8 false 0
+    ∷ matchRow "a" "/" 8 false 0
+    ∷ matchRow "/a#" "/" 8 false 0
+    ∷ []
+
+-- The whole of a walk: does it find a match, where does its last run end, and how many pairs are compared
+pub record WalkRow : Type 0 where
+  pub pattern : String
+  pub path : String
+  pub walked : Walked
+
+abbrev pub walkRow : String → String → Bool → ℕ → ℕ → WalkRow
+walkRow q p b k n = record { pattern = q; path = p; walked = record { stood = b; past = k; count = n } }
+
+abbrev pub walkAsked : WalkRow → Walked
+walkAsked r = walk (shapeOf (octets (r .pattern))) (octets (r .path))
+
+abbrev pub walkAnswer : WalkRow → Walked
+walkAnswer r = r .walked
+
+unfoldable pub ourWalks : List WalkRow
+ourWalks =
+    walkRow "/a$" "/a" true 2 2
+    ∷ walkRow "/a" "/ab" true 2 2
+    ∷ walkRow "/*b" "/abc" true 3 3
+    ∷ walkRow "/*c$" "/abc" true 4 2
+    ∷ walkRow "/b" "/a" false 0 2
+    ∷ walkRow "/a$" "/ab" false 0 0
+    ∷ []
+
+-- One path and a lent buffer: refusal, octets written, and what the buffer holds then
+pub record NormalRow : Type 0 where
+  pub path : List ℕ
+  pub buffer : List ℕ
+  pub refusal : ℕ
+  pub written : ℕ
+  pub left : List ℕ
+
+abbrev pub normalRow : List ℕ → String → ℕ → ℕ → String → NormalRow
+normalRow p b r n l = record { path = p; buffer = octets b; refusal = r; written = n; left = octets l }
+
+abbrev pub normalAsked : NormalRow → NormalRow
+normalAsked r =
+    let a = normaliseOf (r .path) (r .buffer) in
+    record {
+      path = r .path;
+      buffer = r .buffer;
+      refusal = a .refusal;
+      written = a .written;
+      left = normaliseBuffer (r .path) (r .buffer);
+    }
+
+unfoldable pub ourNormals : List NormalRow
+ourNormals =
+    -- RFC 9309, Figure 4: the first, third, fourth and fifth rows
+    normalRow (octets "/foo/bar?baz=quz") "................" 0 16 "/foo/bar?baz=quz"
+    ∷ normalRow (octets "/foo/bar/" ++ (0xE3 ∷ 0x83 ∷ 0x84 ∷ [])) ".................." 0 18 "/foo/bar/%E3%83%84"
+    ∷ normalRow (octets "/foo/bar/%E3%83%84") ".................." 0 18 "/foo/bar/%E3%83%84"
+    ∷ normalRow (octets "/foo/bar/%62%61%7A") "............" 0 12 "/foo/bar/baz"
+    -- the rest of the buffer stays; one octet less of it is refused, and nothing is written
+    ∷ normalRow (octets "/%7e*$%2f%") "................" 0 14 "/~%2A%24%2F%25.."
+    ∷ normalRow (octets "/%7e*$%2f%") ".............." 0 14 "/~%2A%24%2F%25"
+    ∷ normalRow (octets "/%7e*$%2f%") "............." 6 0 "............."
+    -- an escape begins at its "%" and takes two digits
+    ∷ normalRow (octets "/%%41%4%4g") "................" 0 14 "/%25A%254%254g.."
+    ∷ normalRow (octets "/" ++ (0x7F ∷ [])) "...." 0 4 "/%7F"
+    ∷ normalRow [] "." 3 0 "."
+    ∷ normalRow (octets "a") "" 4 0 ""
+    ∷ normalRow (octets "/ ") "" 5 0 ""
+    ∷ []
+
+-- The sorts of octets: of all 256, those that pass a test
+pub record Sort : Type 0 where
+  pub test : ℕ → Bool
+  pub members : List ℕ
+
+infix 20 _holds_
+abbrev pub _holds_ : (ℕ → Bool) → String → Sort
+f holds s = record { test = f; members = octets s }
+
+abbrev pub everyOctet : List ℕ
+everyOctet = numbersFrom 0 256
+
+abbrev pub sorted : Sort → List ℕ
+sorted s = kept (s .test) everyOctet
+
+abbrev pub members : Sort → List ℕ
+members s = s .members
+
+abbrev pub changedBy : (ℕ → ℕ) → ℕ → Bool
+changedBy f x = not (eqb (f x) x)
+
+unfoldable pub ourSorts : List Sort
+ourSorts =
+    (token holds "-ABCDEFGHIJKLMNOPQRSTUVWXYZ_abcdefghijklmnopqrstuvwxyz")
+    ∷ (unreserved holds "-.0123456789ABCDEFGHIJKLMNOPQRSTUVWXYZ_abcdefghijklmnopqrstuvwxyz~")
+    ∷ (hex holds "0123456789ABCDEFabcdef")
+    ∷ (blank holds "\t ")
+    ∷ (lineEnd holds "\n\r")
+    ∷ (changedBy lowerCase holds "ABCDEFGHIJKLMNOPQRSTUVWXYZ")
+    ∷ (changedBy upperCase holds "abcdefghijklmnopqrstuvwxyz")
+    ∷ []
+
+-- Octets in another case, hex digits and their values: a text, and what each of its octets becomes
+pub record Change : Type 0 where
+  pub change : ℕ → ℕ
+  pub before : List ℕ
+  pub after : List ℕ
+
+abbrev pub becomes : (ℕ → ℕ) → List ℕ → List ℕ → Change
+becomes f a b = record { change = f; before = a; after = b }
+
+abbrev pub changed : Change → List ℕ
+changed c = map (c .change) (c .before)
+
+abbrev pub afterwards : Change → List ℕ
+afterwards c = c .after
+
+unfoldable pub ourChanges : List Change
+ourChanges =
+    becomes lowerCase (octets "ABCDEFGHIJKLMNOPQRSTUVWXYZ") (octets "abcdefghijklmnopqrstuvwxyz")
+    ∷ becomes upperCase (octets "abcdefghijklmnopqrstuvwxyz") (octets "ABCDEFGHIJKLMNOPQRSTUVWXYZ")
+    ∷ becomes hexValue (octets "0123456789ABCDEF") (numbersFrom 0 16)
+    ∷ becomes hexValue (octets "0123456789abcdef") (numbersFrom 0 16)
+    ∷ becomes hexDigit (numbersFrom 0 16) (octets "0123456789ABCDEF")
+    ∷ []
