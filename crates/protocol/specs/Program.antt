@@ -16,7 +16,7 @@ use Rattle.protocol.specs.Answers.{decide}
 unfoldable pub decimalBefore : ℕ → ℕ → List ℕ → List ℕ
 decimalBefore zero n l = (code "0" + n % 10) ∷ l
 decimalBefore (suc k) n l =
-    if ltb n 10 then (code "0" + n % 10) ∷ l else decimalBefore k (n / 10) ((code "0" + n % 10) ∷ l)
+    if ltb n 10 then (code "0" + n) ∷ l else decimalBefore k (n / 10) ((code "0" + n % 10) ∷ l)
 
 -- a number below 10 to the power of 20, as every number of an answer is
 unfoldable pub decimal : ℕ → List ℕ
