@@ -17,11 +17,12 @@ done
 
 rt fmt --check || fail "rt fmt --check: run 'rt fmt'"
 
-log=$(mktemp) || fail "mktemp"
-trap 'rm -f "$log"' EXIT
+logs=$(mktemp -d) || fail "mktemp -d"
+trap 'rm -rf "$logs"' EXIT
 # the verdict, rt ci's last line, is held back until everything has passed
-{ rt ci 2>&1 || echo "rt ci: exit status $?"; } | tee "$log" | sed '$d'
-verdict=$(tail -n 1 "$log")
+{ rt ci 2>&1; echo $? >"$logs/status"; } | tee "$logs/ci" | sed '$d'
+verdict=$(tail -n 1 "$logs/ci")
+[ "$(cat "$logs/status")" = 0 ] || fail "rt ci: $verdict"
 case $verdict in
     *[0-9]" passed, 0 failed") ;;
     *) fail "rt ci: $verdict" ;;
