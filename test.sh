@@ -10,7 +10,7 @@ fail() {
 }
 
 # rustup's own folder may be missing from the search path
-PATH="$PATH:${HOME:-/root}/.cargo/bin"
+PATH="$PATH:${CARGO_HOME:-${HOME:-}/.cargo}/bin"
 for tool in rt cargo; do
     command -v "$tool" >/dev/null || fail "$tool is not installed; see README.md, 'What you need'"
 done
