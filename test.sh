@@ -1,6 +1,6 @@
 #!/bin/sh
-# Runs every test: the layout of the sources, rt ci (every crate proved from nothing, every must-fail edit refused, every program run),
-# and the tests in Rust. Stops at the first step that fails. The last line is rt ci's own, printed only if every step passed.
+# Runs every test: the layout of the sources, rt ci (every crate proved from nothing, every must-fail edit refused, every program run), what
+# the refusals of the edits rest on, and the tests in Rust. Stops at the first step that fails. The last line is rt ci's own, printed only if every step passed.
 set -u
 cd "$(dirname "$0")" || exit 2
 
@@ -27,6 +27,14 @@ case $verdict in
     *[0-9]" passed, 0 failed") ;;
     *) fail "rt ci: $verdict" ;;
 esac
+
+# an edit shows something if a statement fails: not if the edited definition is ill-formed, or a proof only no longer fits the code
+if grep 'must-fail .*(first at specs/' "$logs/ci"; then
+    fail "a must-fail edit is ill-formed; see target/must-fail/"
+fi
+if grep -ls 'that can be named from here' target/must-fail/*/*/.log; then
+    fail "a must-fail edit only makes a proof unfit for the code"
+fi
 
 cargo test --manifest-path conformance/Cargo.toml --workspace --offline --locked || fail "cargo test in conformance/"
 
