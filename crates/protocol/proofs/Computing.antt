@@ -4,15 +4,15 @@ use Rattle.protocol.specs.Octets.{upper, lower, digit, token, unreserved
 use Rattle.protocol.specs.Text.{octets, begins, ends, sameIgnoringCase, lead, unlessAtEnd, trimEnd, trim, octetsAt}
 use Rattle.protocol.specs.Lines.{joined, put, linesFrom, marked, linesOf}
 use Rattle.protocol.specs.Readable.{isName, readableAgent, names, characterForms, dueAfter, wellFormed, patternStart, readablePattern}
-use Rattle.protocol.specs.Kinds.{agentAt, patternAt, fieldKind, recordKind, restKind, uncommented, kindOf, placeOf, lengthOf}
+use Rattle.protocol.specs.Kinds.{agentAt, patternAt, fieldKind, recordKind, restKind, uncommented, kindOf}
 use Rattle.protocol.specs.Entries.{roleOf, groupAt, ruledAfter, placeInFile, entryOf, entriesFrom, entries}
 use Rattle.protocol.specs.Rules.{namedBy, someGroupNames, groupNames, ruleIn, rulesIn, addressee, applying, unreadable, unread}
 use Rattle.protocol.specs.Normal.{encoded, meant, escape, isEscape, escapeAt, special, plain, piece, normal, normalPath}
 use Rattle.protocol.specs.Pattern.{shapeOf, weight, firstRun, laterRuns}
 use Rattle.protocol.specs.Walk.{tried, tryAt, seek, final, first, next, later, walkRuns, walk}
 use Rattle.protocol.specs.Refusals.{outsidePath, refusal, decideRefusal, matchRefusal, normaliseRefusal, lineRefusal}
-use Rattle.protocol.specs.Decision.{readableRules, weightOf, walkOf, comparedBy, matching, allows, outdoes, chosen, deciding, decidedBy, isRobotsFile, decidedAmong, answered}
-use Rattle.protocol.specs.Answers.{refusedDecision, unlessRefused, decide, sideNumber, matchBy, matchOf, writtenBy, normalWritten, normaliseOf, normaliseBuffer, lineAnswerBy, lineAnswer, refusalOf, kindNumber, kindNumberOf, valuePlace, valueLength}
+use Rattle.protocol.specs.Decision.{readableRules, weightOf, walkOf, comparedBy, matching, outdoes, chosen, deciding, decidedBy, isRobotsFile, decidedAmong, answered}
+use Rattle.protocol.specs.Answers.{refusedDecision, unlessRefused, decide, matchBy, matchOf, writtenBy, normalWritten, normaliseOf, normaliseBuffer, lineAnswerBy, lineAnswer}
 use Rattle.protocol.specs.Program.{decimalBefore, decimal, refusedText, sideText, answerText, textBy, firstPart, behind, decideInput, output}
 
 unfoldable pub texts : Unit {0}
@@ -20,7 +20,7 @@ unfolding all any kept upTo from total numbersFrom same upper lower digit token 
 texts = tt
 
 unfoldable pub lines : Unit {0}
-unfolding joined put linesFrom marked linesOf isName readableAgent names characterForms dueAfter wellFormed patternStart readablePattern agentAt patternAt fieldKind recordKind restKind uncommented kindOf placeOf lengthOf
+unfolding joined put linesFrom marked linesOf isName readableAgent names characterForms dueAfter wellFormed patternStart readablePattern agentAt patternAt fieldKind recordKind restKind uncommented kindOf
 lines = tt
 
 unfoldable pub groups : Unit {0}
@@ -32,7 +32,7 @@ unfolding encoded meant escape isEscape escapeAt special plain piece normal norm
 patterns = tt
 
 unfoldable pub answers : Unit {0}
-unfolding outsidePath refusal decideRefusal matchRefusal normaliseRefusal lineRefusal readableRules weightOf walkOf comparedBy matching allows outdoes chosen deciding decidedBy isRobotsFile decidedAmong answered refusedDecision unlessRefused decide sideNumber matchBy matchOf writtenBy normalWritten normaliseOf normaliseBuffer lineAnswerBy lineAnswer refusalOf kindNumber kindNumberOf valuePlace valueLength decimalBefore decimal refusedText sideText answerText textBy firstPart behind decideInput output
+unfolding outsidePath refusal decideRefusal matchRefusal normaliseRefusal lineRefusal readableRules weightOf walkOf comparedBy matching outdoes chosen deciding decidedBy isRobotsFile decidedAmong answered refusedDecision unlessRefused decide matchBy matchOf writtenBy normalWritten normaliseOf normaliseBuffer lineAnswerBy lineAnswer decimalBefore decimal refusedText sideText answerText textBy firstPart behind decideInput output
 answers = tt
 
 -- all of them

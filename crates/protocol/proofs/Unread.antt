@@ -43,7 +43,7 @@ module _ (file : List ℕ) (l : Line) where
   Same k = octetsAt file (placeInFile l k) (lengthOf k) ≡ octetsAt (l .text) (placeOf k) (lengthOf k)
 
   adds : (k : Kind) → Says (l .text) k → Same k → Adds file l k
-  unfolding Adds Same unread total entryOf roleOf unreadableKind unreadable placeOf lengthOf octetsAt placeInFile
+  unfolding Adds Same unread total entryOf roleOf unreadable octetsAt placeInFile
   adds Kind.Blank h e g = refl
   adds Kind.Noise h e g = refl
   adds Kind.Other h e g = refl

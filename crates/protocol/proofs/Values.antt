@@ -107,7 +107,6 @@ kind-says line =
 
 -- The value of a line lies inside the line.
 pub value-inside : (line : List ℕ) → placeOf (kindOf line) .offset + lengthOf (kindOf line) ≤ length line
-unfolding placeOf lengthOf
 value-inside line = go (kindOf line) (kind-says line)
   where
     go : (k : Kind) → Says line k → placeOf k .offset + lengthOf k ≤ length line

@@ -45,7 +45,7 @@ decide file name path =
     unlessRefused (decideRefusal file name path) (answered file (entries file) name (normalPath path))
 
 -- "allow or disallow (0 or 1 where a number is wanted)"
-unfoldable pub sideNumber : Side → ℕ
+abbrev pub sideNumber : Side → ℕ
 sideNumber Side.Allow = 0
 sideNumber Side.Disallow = 1
 
@@ -83,11 +83,11 @@ unfoldable pub lineAnswer : List ℕ → LineAnswer
 lineAnswer line = lineAnswerBy (lineRefusal line) (kindOf line)
 
 -- the numbers of that answer
-unfoldable pub refusalOf : LineAnswer → ℕ
+abbrev pub refusalOf : LineAnswer → ℕ
 refusalOf (LineAnswer.Refused n) = n
 refusalOf (LineAnswer.Kind k) = 0
 
-unfoldable pub kindNumber : Kind → ℕ
+abbrev pub kindNumber : Kind → ℕ
 kindNumber Kind.Blank = 1
 kindNumber Kind.Noise = 2
 kindNumber Kind.Other = 3
@@ -100,14 +100,14 @@ kindNumber (Kind.Rule Side.Disallow Pattern.Empty) = 9
 kindNumber (Kind.Rule Side.Disallow (Pattern.Readable p n)) = 10
 kindNumber (Kind.Rule Side.Disallow (Pattern.Unreadable p n)) = 11
 
-unfoldable pub kindNumberOf : LineAnswer → ℕ
+abbrev pub kindNumberOf : LineAnswer → ℕ
 kindNumberOf (LineAnswer.Refused n) = 0
 kindNumberOf (LineAnswer.Kind k) = kindNumber k
 
-unfoldable pub valuePlace : LineAnswer → Place
+abbrev pub valuePlace : LineAnswer → Place
 valuePlace (LineAnswer.Refused n) = placeAt 0
 valuePlace (LineAnswer.Kind k) = placeOf k
 
-unfoldable pub valueLength : LineAnswer → ℕ
+abbrev pub valueLength : LineAnswer → ℕ
 valueLength (LineAnswer.Refused n) = 0
 valueLength (LineAnswer.Kind k) = lengthOf k

@@ -40,7 +40,7 @@ comparedBy file path rs = total (λ r. walkOf file path r .count) rs
 unfoldable pub matching : List ℕ → List ℕ → List Rule → List Rule
 matching file path rs = kept (λ r. walkOf file path r .stood) rs
 
-unfoldable pub allows : Side → Bool
+abbrev pub allows : Side → Bool
 allows Side.Allow = true
 allows Side.Disallow = false
 

@@ -61,7 +61,7 @@ unfoldable pub kindOf : List ℕ → Kind
 kindOf line = let l = uncommented line in restKind (lead l) (trim l)
 
 -- "with the place and length in it of an agent's value or a rule's pattern (0 and 0 if that is empty, and for every other kind)"
-unfoldable pub placeOf : Kind → Place
+abbrev pub placeOf : Kind → Place
 placeOf Kind.Blank = placeAt 0
 placeOf Kind.Noise = placeAt 0
 placeOf Kind.Other = placeAt 0
@@ -71,7 +71,7 @@ placeOf (Kind.Rule side Pattern.Empty) = placeAt 0
 placeOf (Kind.Rule side (Pattern.Readable p n)) = p
 placeOf (Kind.Rule side (Pattern.Unreadable p n)) = p
 
-unfoldable pub lengthOf : Kind → ℕ
+abbrev pub lengthOf : Kind → ℕ
 lengthOf Kind.Blank = 0
 lengthOf Kind.Noise = 0
 lengthOf Kind.Other = 0
@@ -82,7 +82,7 @@ lengthOf (Kind.Rule side (Pattern.Readable p n)) = n
 lengthOf (Kind.Rule side (Pattern.Unreadable p n)) = n
 
 -- "unreadable agent and rule lines"
-unfoldable pub unreadableKind : Kind → Bool
+abbrev pub unreadableKind : Kind → Bool
 unreadableKind Kind.Blank = false
 unreadableKind Kind.Noise = false
 unreadableKind Kind.Other = false
