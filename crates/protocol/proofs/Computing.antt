@@ -12,7 +12,7 @@ use Rattle.protocol.specs.Pattern.{shapeOf, weight, firstRun, laterRuns}
 use Rattle.protocol.specs.Walk.{tried, tryAt, seek, final, first, next, later, walkRuns, walk}
 use Rattle.protocol.specs.Refusals.{outsidePath, refusal, decideRefusal, matchRefusal, normaliseRefusal, lineRefusal}
 use Rattle.protocol.specs.Decision.{readableRules, weightOf, walkOf, comparedBy, matching, outdoes, chosen, deciding, decidedBy, isRobotsFile, decidedAmong, answered}
-use Rattle.protocol.specs.Answers.{refusedDecision, unlessRefused, decide, matchBy, matchOf, writtenBy, normalWritten, normaliseOf, normaliseBuffer, lineAnswerBy, lineAnswer}
+use Rattle.protocol.specs.Answers.{unlessRefused, decide, matchBy, matchOf, writtenBy, normalWritten, normaliseOf, normaliseBuffer, lineAnswerBy, lineAnswer}
 use Rattle.protocol.specs.Program.{decimalBefore, decimal, refusedText, sideText, answerText, textBy, firstPart, behind, decideInput, output}
 
 unfoldable pub texts : Unit {0}
@@ -32,7 +32,7 @@ unfolding encoded meant escape isEscape escapeAt special plain piece normal norm
 patterns = tt
 
 unfoldable pub answers : Unit {0}
-unfolding outsidePath refusal decideRefusal matchRefusal normaliseRefusal lineRefusal readableRules weightOf walkOf comparedBy matching outdoes chosen deciding decidedBy isRobotsFile decidedAmong answered refusedDecision unlessRefused decide matchBy matchOf writtenBy normalWritten normaliseOf normaliseBuffer lineAnswerBy lineAnswer decimalBefore decimal refusedText sideText answerText textBy firstPart behind decideInput output
+unfolding outsidePath refusal decideRefusal matchRefusal normaliseRefusal lineRefusal readableRules weightOf walkOf comparedBy matching outdoes chosen deciding decidedBy isRobotsFile decidedAmong answered unlessRefused decide matchBy matchOf writtenBy normalWritten normaliseOf normaliseBuffer lineAnswerBy lineAnswer decimalBefore decimal refusedText sideText answerText textBy firstPart behind decideInput output
 answers = tt
 
 -- all of them

@@ -23,7 +23,7 @@ use Rattle.protocol.specs.Refusals.{decideRefusal, matchRefusal, normali
 use Rattle.protocol.specs.Decision.{answered}
 
 -- "A refused decision holds its number, disallow, and zeros"
-unfoldable pub refusedDecision : ℕ → Decision
+abbrev pub refusedDecision : ℕ → Decision
 refusedDecision n =
     record {
       refusal = n;
