@@ -9,6 +9,8 @@ fail() {
     exit 1
 }
 
+[ $# -eq 0 ] || fail "it takes no arguments: run ./test.sh"
+
 # rustup's own folder may be missing from the search path
 PATH="$PATH:${CARGO_HOME:-${HOME:-}/.cargo}/bin"
 for tool in rt cargo; do

@@ -22,12 +22,11 @@ const COUNTS: [(&str, usize); 8] = [
 
 fn rows() -> Vec<Row> {
     let specs = concat!(env!("CARGO_MANIFEST_DIR"), "/../../crates/protocol/specs");
+    let sorts = COUNTS.map(|(sort, _)| sort);
     let read = |file| {
         let text = std::fs::read_to_string(format!("{specs}/{file}"));
-        rows::read(
-            file,
-            &text.unwrap_or_else(|fault| panic!("{file}: {fault}")),
-        )
+        let text = text.unwrap_or_else(|fault| panic!("{file}: {fault}"));
+        rows::read(file, &text, &sorts)
     };
     FILES.into_iter().flat_map(read).collect()
 }

@@ -3,6 +3,7 @@
 //! their own, beside copies of the crates they need, and `rt check` computes
 //! them there.
 
+use std::fmt::Display;
 use std::fs;
 use std::path::{Path, PathBuf};
 use std::process::Command;
@@ -23,18 +24,10 @@ const LONGEST_PATH: usize = 40;
 /// The crate's one proof file in front of the cases.
 const HEAD: &str = include_str!("definitions/head.txt");
 
-fn list(octets: &[u8]) -> String {
-    let mut text: String = octets.iter().map(|octet| format!("{octet} ∷ ")).collect();
-    text.insert(0, '(');
-    text.push_str("[])");
-    text
-}
-
-fn numbers(numbers: &[usize]) -> String {
-    let mut text: String = numbers.iter().map(|n| format!("{n} ∷ ")).collect();
-    text.insert(0, '(');
-    text.push_str("[])");
-    text
+/// A list of numbers, as antt writes it.
+fn list<T: Display>(numbers: &[T]) -> String {
+    let items: String = numbers.iter().map(|n| format!("{n} ∷ ")).collect();
+    format!("({items}[])")
 }
 
 fn decided(case: &DecideCase) -> String {
@@ -49,13 +42,13 @@ fn decided(case: &DecideCase) -> String {
         answer.compared,
     ];
     let (file, name, path) = (list(&case.file), list(&case.name), list(&case.path));
-    format!("decided {file} {name} {path} {}", numbers(&expected))
+    format!("decided {file} {name} {path} {}", list(&expected))
 }
 
 fn matched(case: &MatchCase) -> String {
     let answer = match_pattern(&case.pattern, &case.path);
     let found = usize::from(answer.found);
-    let expected = numbers(&[answer.refusal, found, answer.compared]);
+    let expected = list(&[answer.refusal, found, answer.compared]);
     let (pattern, path) = (list(&case.pattern), list(&case.path));
     format!("matched {pattern} {path} {expected}")
 }
@@ -63,14 +56,14 @@ fn matched(case: &MatchCase) -> String {
 fn told(case: &LineCase) -> String {
     let answer = line_kind(&case.line);
     let expected = [answer.refusal, answer.kind, answer.place, answer.length];
-    format!("told {} {}", list(&case.line), numbers(&expected))
+    format!("told {} {}", list(&case.line), list(&expected))
 }
 
 fn normalised(case: &NormaliseCase) -> String {
     let buffer: Vec<u8> = (0..case.room).map(|at| (at * 7 % 256) as u8).collect();
     let mut after = buffer.clone();
     let answer = normalise(&case.path, &mut after);
-    let expected = numbers(&[answer.refusal, answer.written]);
+    let expected = list(&[answer.refusal, answer.written]);
     let (path, buffer) = (list(&case.path), list(&buffer));
     format!("normalised {path} {buffer} {expected} {}", list(&after))
 }

@@ -1,13 +1,19 @@
 -- The worked examples, computed. Assumes nothing.
-use mathlib.Core.Path.{_≡_, refl}
+use mathlib.Core.Path.{_≡_, refl, ap}
+use mathlib.Core.Bool.{false≢true}
 use mathlib.Core.List.{[], _∷_, map}
+use native.Mathlib.Omega.{arith}
+use lib.ListN.{length}
 use Rattle.protocol.specs.declared.Side.{Side}
 use Rattle.protocol.specs.Text.{octets}
 use Rattle.protocol.specs.Entries.{entries}
+use Rattle.protocol.specs.Pattern.{shapeOf}
+use Rattle.protocol.specs.Matching.{filled, Matches}
 use Rattle.protocol.specs.Answers.{sideNumber}
 use Rattle.protocol.specs.Program.{decimal, output}
 use Rattle.protocol.specs.Examples.{asked, answer, workedTable, programInput, programOutput}
 use Rattle.protocol.specs.OwnExamples.{ourTable, refusedAt, refusalAt, ourSizes, spanAsked, span, ourSpans}
+use Rattle.protocol.specs.OwnExamples.{givenEntries, applyingLines, fillingAsked, fillingGives, ourFillings}
 use Rattle.protocol.specs.OwnExamples.{entryNumbers, entriesFile, entriesNumbers, lineAsked, ourLines}
 use Rattle.protocol.specs.OwnExamples.{matchAsked, matchAnswer, ourMatches, walkAsked, walkAnswer, ourWalks, normalAsked, ourNormals}
 use Rattle.protocol.specs.OwnExamples.{outputAsked, outputOf, ourRuns, ourNumbers, ourDecimals}
@@ -49,6 +55,10 @@ pub our-entries : map entryNumbers (entries entriesFile) ≡ entriesNumbers
 unfolding computing entriesFile entriesNumbers
 our-entries = refl
 
+pub given-entries : applyingLines ≡ 9 ∷ []
+unfolding computing givenEntries
+given-entries = refl
+
 pub our-spans : map spanAsked ourSpans ≡ map span ourSpans
 unfolding computing ourSpans
 our-spans = refl
@@ -60,6 +70,23 @@ our-lines = refl
 pub our-matches : map matchAsked ourMatches ≡ map matchAnswer ourMatches
 unfolding computing ourMatches
 our-matches = refl
+
+pub our-fillings : map fillingAsked ourFillings ≡ map fillingGives ourFillings
+unfolding computing filled ourFillings
+our-fillings = refl
+
+-- the meaning of a match, with no walk: a filling and what is left of the path; with an end mark, nothing may be left
+pub matches-beginning : Matches (shapeOf (octets "/*b")) (octets "/xxbc")
+unfolding computing filled
+matches-beginning = record { fillings = octets "xx" ∷ []; rest = octets "c"; gives = refl; whole = λ e. absurd (false≢true e) }
+
+pub matches-whole : Matches (shapeOf (octets "/*b$")) (octets "/xxb")
+unfolding computing filled
+matches-whole = record { fillings = octets "xx" ∷ []; rest = []; gives = refl; whole = λ e. refl }
+
+pub matches-not : Matches (shapeOf (octets "/a$")) (octets "/ab") → ⊥
+unfolding computing filled
+matches-not m = omega (arith, ap length (m .gives), ap length (m .whole refl))
 
 pub our-walks : map walkAsked ourWalks ≡ map walkAnswer ourWalks
 unfolding computing ourWalks

@@ -1,4 +1,4 @@
--- The lines of a file, read front to back: the first line, and then the lines behind it. And every line lies inside the file.
+-- The lines of a file, read front to back: the first line, and then the lines behind it. A line and its ending are no more than what is left.
 -- Assumes nothing.
 use Prim.Native.Nat.{ℕ, suc, _+_, _≤_, _<_}
 use mathlib.Core.Path.{_≡_, refl, sym, ap, _∙_}

@@ -1,35 +1,30 @@
--- "Just inside: a 512,000-octet file [..]. One more octet [..] is refused": the limit that is too long to compute with, for each question
--- that has it. The others are rows of specs/Examples.antt. Assumes nothing.
+-- "Just inside: a 512,000-octet file [..]. One more octet [..] is refused": the limit that is too long to compute with. The others are
+-- rows of specs/OwnExamples.antt. Assumes nothing.
 use Prim.Native.Nat.{ℕ, _≤_, _<_}
 use mathlib.Core.Path.{_≡_}
 use mathlib.Core.List.{List, [], _∷_, _++_}
 use lib.ListN.{length}
 use borrow.Author.Tests.{lt-ltb, le-ltb}
-use Rattle.protocol.specs.Refusals.{severalLines, badName, badPattern, pathRows, refusal, decideRefusal, matchRefusal, lineRefusal}
+use Rattle.protocol.specs.Refusals.{Row, tooLong, severalLines, badName, badPattern, pathRows, refusal, decideRefusal, matchRefusal, lineRefusal}
 
-module _ (file name path : List ℕ) where
-  pub file-over : 512_000 < length file → decideRefusal file name path ≡ 1
-  unfolding decideRefusal refusal
-  file-over h = rw (lt-ltb 512_000 (length file) h)
+module _ (l : List ℕ) (rows : List Row) where
+  pub too-long : 512_000 < length l → refusal (tooLong l ∷ rows) ≡ 1
+  unfolding refusal
+  too-long h = rw (lt-ltb 512_000 (length l) h)
 
-  pub file-within : length file ≤ 512_000 → decideRefusal file name path ≡ refusal (badName name ∷ pathRows path)
-  unfolding decideRefusal refusal
-  file-within h = rw (le-ltb 512_000 (length file) h)
+  pub not-too-long : length l ≤ 512_000 → refusal (tooLong l ∷ rows) ≡ refusal rows
+  unfolding refusal
+  not-too-long h = rw (le-ltb 512_000 (length l) h)
 
-module _ (pattern path : List ℕ) where
-  pub pattern-over : 512_000 < length pattern → matchRefusal pattern path ≡ 1
-  unfolding matchRefusal refusal
-  pattern-over h = rw (lt-ltb 512_000 (length pattern) h)
+-- each question that is given a file, a pattern or a line tests it first
+pub file-too-long : (file name path : List ℕ) → 512_000 < length file → decideRefusal file name path ≡ 1
+unfolding decideRefusal
+file-too-long file name path h = too-long file (badName name ∷ pathRows path) h
 
-  pub pattern-within : length pattern ≤ 512_000 → matchRefusal pattern path ≡ refusal (pathRows path ++ (badPattern pattern ∷ []))
-  unfolding matchRefusal refusal
-  pattern-within h = rw (le-ltb 512_000 (length pattern) h)
+pub pattern-too-long : (pattern path : List ℕ) → 512_000 < length pattern → matchRefusal pattern path ≡ 1
+unfolding matchRefusal
+pattern-too-long pattern path h = too-long pattern (pathRows path ++ (badPattern pattern ∷ [])) h
 
-module _ (line : List ℕ) where
-  pub line-over : 512_000 < length line → lineRefusal line ≡ 1
-  unfolding lineRefusal refusal
-  line-over h = rw (lt-ltb 512_000 (length line) h)
-
-  pub line-within : length line ≤ 512_000 → lineRefusal line ≡ refusal (severalLines line ∷ [])
-  unfolding lineRefusal refusal
-  line-within h = rw (le-ltb 512_000 (length line) h)
+pub line-too-long : (line : List ℕ) → 512_000 < length line → lineRefusal line ≡ 1
+unfolding lineRefusal
+line-too-long line h = too-long line (severalLines line ∷ []) h

@@ -13,8 +13,11 @@ use Rattle.protocol.specs.declared.Matched.{Matched}
 use Rattle.protocol.specs.declared.Walked.{Walked}
 use Rattle.protocol.specs.Octets.{token, unreserved, hex, blank, lineEnd, lowerCase, upperCase, hexValue, hexDigit}
 use Rattle.protocol.specs.Text.{octets}
+use Rattle.protocol.specs.Lines.{lineNumber, placeAt}
 use Rattle.protocol.specs.Entries.{Role, agent, rule, Entry}
+use Rattle.protocol.specs.Rules.{applying}
 use Rattle.protocol.specs.Pattern.{shapeOf}
+use Rattle.protocol.specs.Matching.{filled}
 use Rattle.protocol.specs.Walk.{walk}
 use Rattle.protocol.specs.Answers.{decide, matchOf, normaliseOf, normaliseBuffer, lineAnswer, refusalOf, kindNumberOf, valuePlace, valueLength}
 use Rattle.protocol.specs.Program.{output}
@@ -193,6 +196,17 @@ entriesNumbers =
     ∷ (9 ∷ 3 ∷ 0 ∷ 108 ∷ 1 ∷ [])
     ∷ []
 
+-- Entries as given, that no file has: group 0 is none, and a group's agent may stand behind its rule
+abbrev pub entry : ℕ → ℕ → Role → ℕ → Entry
+entry n g r p = record { line = lineNumber n; group = g; role = r; place = placeAt p; length = 1 }
+
+unfoldable pub givenEntries : List Entry
+givenEntries = entry 9 2 (rule Side.Allow) 1 ∷ entry 8 0 agent 0 ∷ entry 7 0 (rule Side.Disallow) 1 ∷ entry 6 2 agent 0 ∷ []
+
+-- the lines of the rules that apply to the crawler a, where the file is "a/"
+abbrev pub applyingLines : List ℕ
+applyingLines = map (λ r. r .line .number) (applying (octets "a/") givenEntries (octets "a"))
+
 -- Where the deciding rule's pattern stands: its place and length in the file
 pub record Located : Type 0 where
   pub file : List ℕ
@@ -331,6 +345,31 @@ ourMatches =
     ∷ matchRow "" "/" 8 false 0
     ∷ matchRow "a" "/" 8 false 0
     ∷ matchRow "/a#" "/" 8 false 0
+    ∷ []
+
+-- A pattern's octets and stars, what fills the stars, and what that gives. With too few fillings the last stars stand for nothing.
+pub record Filling : Type 0 where
+  pub text : String
+  pub fillings : List String
+  pub gives : String
+
+abbrev pub filling : String → List String → String → Filling
+filling t f g = record { text = t; fillings = f; gives = g }
+
+abbrev pub fillingAsked : Filling → List ℕ
+fillingAsked r = filled (octets (r .text)) (map octets (r .fillings))
+
+abbrev pub fillingGives : Filling → List ℕ
+fillingGives r = octets (r .gives)
+
+unfoldable pub ourFillings : List Filling
+ourFillings =
+    filling "/a" [] "/a"
+    ∷ filling "/*b" ("xy" ∷ []) "/xyb"
+    ∷ filling "/*b*" ("x" ∷ "yz" ∷ []) "/xbyz"
+    ∷ filling "**" ("a" ∷ "b" ∷ []) "ab"
+    ∷ filling "/*b*" ("x" ∷ []) "/xb"
+    ∷ filling "/a" ("x" ∷ []) "/a"
     ∷ []
 
 -- The whole of a walk: does it find a match, where does its last run end, and how many pairs are compared

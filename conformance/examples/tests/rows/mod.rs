@@ -15,18 +15,8 @@ impl Row {
     }
 }
 
-const SORTS: [&str; 8] = [
-    "row",
-    "rowIn",
-    "sizes",
-    "run",
-    "located",
-    "lineRow",
-    "matchRow",
-    "normalRow",
-];
-
-pub fn read(file: &'static str, text: &str) -> Vec<Row> {
+/// The rows of these sorts.
+pub fn read(file: &'static str, text: &str, sorts: &[&str]) -> Vec<Row> {
     let numbered = text.lines().enumerate();
     numbered
         .filter_map(|(at, line)| {
@@ -34,7 +24,7 @@ pub fn read(file: &'static str, text: &str) -> Vec<Row> {
             let text = inner.strip_prefix("∷ ").unwrap_or(inner).to_string();
             let line = at + 1;
             let row = Row { file, line, text };
-            SORTS.contains(&row.sort()).then_some(row)
+            sorts.contains(&row.sort()).then_some(row)
         })
         .collect()
 }
