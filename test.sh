@@ -1,6 +1,7 @@
 #!/bin/sh
 # Runs every test: the layout of the sources, rt ci (every crate proved from nothing, every must-fail edit refused, every program run), what
-# the refusals of the edits rest on, and the tests in Rust. Stops at the first step that fails. The last line is rt ci's own, printed only if every step passed.
+# the refusals of the edits rest on, the tests in Rust, and the library linked from C and from C++. Stops at the first step that fails. The last
+# line is rt ci's own, printed only if every step passed.
 set -u
 cd "$(dirname "$0")" || exit 2
 
@@ -13,7 +14,7 @@ fail() {
 
 # rustup's own folder may be missing from the search path
 PATH="$PATH:${CARGO_HOME:-${HOME:-}/.cargo}/bin"
-for tool in rt cargo; do
+for tool in rt cargo gcc g++ nm; do
     command -v "$tool" >/dev/null || fail "$tool is not installed; see README.md, 'What you need'"
 done
 
@@ -34,10 +35,32 @@ esac
 if grep 'must-fail .*(first at specs/' "$logs/ci"; then
     fail "a must-fail edit is ill-formed; see target/must-fail/"
 fi
-if grep -ls 'that can be named from here' target/must-fail/*/*/.log; then
+if grep -lsE 'that can be named from here|has no field' target/must-fail/*/*/.log; then
     fail "a must-fail edit only makes a proof unfit for the code"
 fi
 
+# rt ci empties target/, so the archive is built after it
+archive=target/staticlib/librobots.a
+rt staticlib robots || fail "rt staticlib robots: see the first line above that isn't 'proved'"
+
+nm -g --defined-only "$archive" | sed -n 's/^[0-9a-f]* T //p' | sort >"$logs/exported"
+sed -n 's/^size_t \(robots_[a-z_]*\)(.*/\1/p' include/robots.h | sort >"$logs/declared"
+diff "$logs/exported" "$logs/declared" || fail "include/robots.h: declare what crates/robots exports (< exported only, > declared only)"
+
 cargo test --manifest-path conformance/Cargo.toml --workspace --offline --locked || fail "cargo test in conformance/"
+
+# the same program as C and as C++: the header serves both
+link_test() {
+    "$@" -Wall -Wextra -Werror -pedantic -Iinclude conformance/c/link.c "$archive" -o "target/link-test/$1" || fail "$1 on conformance/c/link.c: see its messages above"
+    "target/link-test/$1" || fail "target/link-test/$1: see the failed checks above"
+}
+mkdir -p target/link-test || fail "mkdir -p target/link-test"
+link_test gcc -std=c99
+link_test g++
+
+# README.md, 'See it work': its command prints what stands there
+told() { sed -n '/^## See it work/,/^## /s/^    //p' README.md; }
+printed=$(sh -c "$(told | head -n 1)" | tail -n 1)
+[ -n "$printed" ] && [ "$printed" = "$(told | tail -n 1)" ] || fail "README.md, 'See it work': its command printed '$printed'"
 
 echo "$verdict"

@@ -1,3 +1,7 @@
 pub mod Bools
+pub mod Fronts
+pub mod Numbers
 pub mod Parts
 pub mod Places
+pub mod Scans
+pub mod Tests

@@ -58,11 +58,11 @@ module _ (n p c : ℕ) (l : List ℕ) where
 module _ (c : ℕ) (l : List ℕ) where
   ending-one : closes c (begins "\n" l) ≡ true → endingLength (c ∷ l) ≡ 1
   unfolding endingLength
-  ending-one e = rw e
+  ending-one e = rw (closing-ends c (begins "\n" l) e, e)
 
-  ending-two : closes c (begins "\n" l) ≡ false → endingLength (c ∷ l) ≡ 2
+  ending-two : closes c (begins "\n" l) ≡ false → lineEnd c ≡ true → endingLength (c ∷ l) ≡ 2
   unfolding endingLength
-  ending-two e = rw e
+  ending-two e g = rw (g, e)
 
   -- one octet of the text more
   length-on : lineEnd c ≡ false → lineLength (c ∷ l) ≡ suc (lineLength l)
@@ -90,7 +90,7 @@ unfolding Front lineLength begins joined
 front-cr-lf n p c d l e g =
     let cr = open-cr c (is "\n" d) e g in
     let q : p + 1 + 1 ≡ p + 2 = omega arith in
-    rw (upTo-stop lineEnd c (d ∷ l) g, from-stop lineEnd c (d ∷ l) g, ending-two c (d ∷ l) e)
+    rw (upTo-stop lineEnd c (d ∷ l) g, from-stop lineEnd c (d ∷ l) g, ending-two c (d ∷ l) e g)
     (lines-joined n p c (d ∷ l) e ∙ rw (cr .0, lines-closed n (p + 1) d l (lf-closes d (begins "\n" l) (cr .1)), q))
 
 -- an octet of the text in front of a line
@@ -122,7 +122,7 @@ ending-fits : (c : ℕ) (l : List ℕ) → lineEnd c ≡ true → endingLength (
 unfolding begins
 ending-fits c l g =
     split (closes c (begins "\n" l)) (λ e. rw (ending-one c l e) (omega arith))
-    (λ e. rw (ending-two c l e) (go l (open-cr c (begins "\n" l) e g .1)))
+    (λ e. rw (ending-two c l e g) (go l (open-cr c (begins "\n" l) e g .1)))
   where
     go : (m : List ℕ) → begins "\n" m ≡ true → 2 ≤ suc (length m)
     go [] h = absurd (true≢false (sym h))
@@ -135,6 +135,14 @@ line-fits (c ∷ l) =
     split (lineEnd c)
     (λ g. rw (upTo-stop lineEnd c l g, from-stop lineEnd c l g) (omega (arith, ending-fits c l g)))
     (λ g. rw (length-on c l g) (omega (arith, line-fits l)))
+
+-- a line that is there has some octet, of text or of its ending
+pub line-some : (c : ℕ) (l : List ℕ) → 1 ≤ lineLength (c ∷ l)
+unfolding lineLength endingLength
+line-some c l =
+    split (lineEnd c)
+    (λ e. rw (from-stop lineEnd c l e) (split (closes c (begins "\n" l)) (λ g. rw (e, g) (omega arith)) (λ g. rw (e, g) (omega arith))))
+    (λ e. rw (upTo-on lineEnd c l e) (omega arith))
 
 -- The lines from a place of the file on: none at the file's end;
 pub lines-end : (file : List ℕ) (n p : ℕ) → length file ≤ p → linesFrom n p (drop p file) ≡ []

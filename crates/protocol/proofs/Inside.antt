@@ -12,14 +12,14 @@ use borrow.Author.Tests.{ltb-true, ltb-false, eqb-true}
 use Rattle.lists.specs.Each.{Each}
 use Rattle.lists.specs.Occurs.{Occurs}
 use Rattle.lists.proofs.Bools.{split}
-use Rattle.lists.proofs.Parts.{upTo-on, from-stop, each-append}
+use Rattle.lists.proofs.Parts.{each-append}
 use Rattle.lists.proofs.Places.{occurs-fits, occurs-front-in, occurs-read-in, occurs-drop, occurs-upTo}
 use Rattle.protocol.specs.Octets.{lineEnd}
-use Rattle.protocol.specs.Text.{begins, octetsAt}
-use Rattle.protocol.specs.Lines.{Line, closes, linesFrom, skipped, linesOf, lineText, endingLength, lineLength}
+use Rattle.protocol.specs.Text.{octetsAt}
+use Rattle.protocol.specs.Lines.{Line, linesFrom, skipped, linesOf, lineText, lineLength}
 use Rattle.protocol.specs.Kinds.{kindOf, placeOf, lengthOf}
 use Rattle.protocol.specs.Entries.{Role, Entry, roleOf, groupAt, ruledAfter, placeInFile, entryOf, entriesFrom, entries}
-use Rattle.protocol.proofs.FrontToBack.{lines-end, lines-next}
+use Rattle.protocol.proofs.FrontToBack.{line-some, lines-end, lines-next}
 use Rattle.protocol.proofs.Values.{value-inside}
 
 -- the line stands in the file at its place
@@ -29,14 +29,6 @@ InFile file l = Occurs file (l .place .offset) (l .text)
 -- the entry's value lies inside the file
 abbrev pub ValueInFile : List ℕ → Entry → Type 0
 ValueInFile file e = e .place .offset + e .length ≤ length file
-
--- a line that is there has some octet, of text or of its ending
-line-some : (c : ℕ) (l : List ℕ) → 1 ≤ lineLength (c ∷ l)
-unfolding lineLength endingLength
-line-some c l =
-    split (lineEnd c)
-    (λ e. rw (from-stop lineEnd c l e) (split (closes c (begins "\n" l)) (λ g. rw g (omega arith)) (λ g. rw g (omega arith))))
-    (λ e. rw (upTo-on lineEnd c l e) (omega arith))
 
 -- at most k octets are left
 lines-in : (file : List ℕ) (k n p : ℕ) → length file ≤ p + k → Each (InFile file) (linesFrom n p (drop p file))

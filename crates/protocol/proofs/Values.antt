@@ -46,7 +46,7 @@ end-gone (x ∷ l) = go (trimEnd l) (end-gone l)
     go [] k = split (blank x) (λ e. rw e (x ∷ l, refl)) (λ e. rw e (l, refl))
     go (y ∷ t) k = (k .0, ap (λ (m : List ℕ). x ∷ m) (k .1))
 
-trimmed : (l : List ℕ) → Occurs l (lead l) (trim l)
+pub trimmed : (l : List ℕ) → Occurs l (lead l) (trim l)
 unfolding trim lead
 trimmed l =
     let s : List ℕ = from solid l in

@@ -68,7 +68,7 @@ lineText l = upTo lineEnd l
 
 unfoldable pub endingLength : List ℕ → ℕ
 endingLength [] = 0
-endingLength (c ∷ l) = if closes c (begins "\n" l) then 1 else 2
+endingLength (c ∷ l) = if lineEnd c then (if closes c (begins "\n" l) then 1 else 2) else 0
 
 unfoldable pub lineLength : List ℕ → ℕ
 lineLength l = length (lineText l) + endingLength (from lineEnd l)

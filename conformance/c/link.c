@@ -1,0 +1,335 @@
+/*
+ * Links the library through its header and asks fixed questions. The answers
+ * are those of document 01 and of the sources' examples. Compiles as C99 and
+ * as C++.
+ */
+#include "robots.h"
+
+#include <stdio.h>
+#include <stdlib.h>
+#include <string.h>
+
+/* The octets of a string literal, and their number without its last NUL. */
+#define TEXT(literal) (const uint8_t *)(literal), sizeof(literal) - 1
+
+#define COUNT(rows) (sizeof(rows) / sizeof((rows)[0]))
+
+struct octets {
+    const uint8_t *start;
+    size_t length;
+};
+
+struct line_row {
+    struct octets line;
+    size_t refusal;
+    size_t kind;
+    size_t place;
+    size_t length;
+};
+
+struct path_row {
+    struct octets path;
+    struct octets normalised;
+};
+
+struct refused_row {
+    struct octets path;
+    size_t refusal;
+};
+
+static const struct line_row line_rows[] = {
+    /* RFC 9309, figures 1 and 5, sections 2.2.4 and 5.1 */
+    {{TEXT("user-agent: ExampleBot")}, ROBOTS_ANSWERED, ROBOTS_KIND_AGENT_READABLE, 12, 10},
+    {{TEXT("allow: / # comment in line")}, ROBOTS_ANSWERED, ROBOTS_KIND_ALLOW_READABLE, 7, 1},
+    {{TEXT("# comment on its own line")}, ROBOTS_ANSWERED, ROBOTS_KIND_BLANK, 0, 0},
+    {{TEXT("allow: /this/path/exactly$")}, ROBOTS_ANSWERED, ROBOTS_KIND_ALLOW_READABLE, 7, 19},
+    {{TEXT("allow: /this/*/exactly")}, ROBOTS_ANSWERED, ROBOTS_KIND_ALLOW_READABLE, 7, 15},
+    {{TEXT("sitemap: https://www.example.com/sitemap.xml")}, ROBOTS_ANSWERED, ROBOTS_KIND_OTHER, 0, 0},
+    {{TEXT("Disallow:/")}, ROBOTS_ANSWERED, ROBOTS_KIND_DISALLOW_READABLE, 9, 1},
+    /* "Readable: begins with "/"" */
+    {{TEXT("Disallow: *.gif$")}, ROBOTS_ANSWERED, ROBOTS_KIND_DISALLOW_UNREADABLE, 10, 6},
+    /* the search firm's page */
+    {{TEXT("user-agent:googlebot#optional-comment")}, ROBOTS_ANSWERED, ROBOTS_KIND_AGENT_READABLE, 11, 9},
+    {{TEXT(" \tdisallow: /fish\t ")}, ROBOTS_ANSWERED, ROBOTS_KIND_DISALLOW_READABLE, 12, 5},
+    {{TEXT("USER-AGENT: googlebot")}, ROBOTS_ANSWERED, ROBOTS_KIND_AGENT_READABLE, 12, 9},
+    {{TEXT("useragent: googlebot")}, ROBOTS_ANSWERED, ROBOTS_KIND_OTHER, 0, 0},
+    {{TEXT("allow:")}, ROBOTS_ANSWERED, ROBOTS_KIND_ALLOW_EMPTY, 0, 0},
+    {{TEXT("disallow:")}, ROBOTS_ANSWERED, ROBOTS_KIND_DISALLOW_EMPTY, 0, 0},
+    /* the 2019 draft, 3.1 */
+    {{TEXT("User-Agent : foobot")}, ROBOTS_ANSWERED, ROBOTS_KIND_AGENT_READABLE, 13, 6},
+    /* "blank: nothing left; noise: no colon" */
+    {{TEXT("")}, ROBOTS_ANSWERED, ROBOTS_KIND_BLANK, 0, 0},
+    {{TEXT(" \t ")}, ROBOTS_ANSWERED, ROBOTS_KIND_BLANK, 0, 0},
+    {{TEXT("disallow /")}, ROBOTS_ANSWERED, ROBOTS_KIND_NOISE, 0, 0},
+    {{TEXT("disallow # :")}, ROBOTS_ANSWERED, ROBOTS_KIND_NOISE, 0, 0},
+    /* "other: any other field, an empty one included" */
+    {{TEXT(": /")}, ROBOTS_ANSWERED, ROBOTS_KIND_OTHER, 0, 0},
+    {{TEXT("allow\0: /")}, ROBOTS_ANSWERED, ROBOTS_KIND_OTHER, 0, 0},
+    /* "the value what follows" the first colon */
+    {{TEXT("disallow: /a:b")}, ROBOTS_ANSWERED, ROBOTS_KIND_DISALLOW_READABLE, 10, 4},
+    /* "readable if its value is "*" or one or more octets of A-Z a-z - _" */
+    {{TEXT("user-agent: *")}, ROBOTS_ANSWERED, ROBOTS_KIND_AGENT_READABLE, 12, 1},
+    {{TEXT("user-agent: Foo_bot-")}, ROBOTS_ANSWERED, ROBOTS_KIND_AGENT_READABLE, 12, 8},
+    {{TEXT("user-agent: bot9")}, ROBOTS_ANSWERED, ROBOTS_KIND_AGENT_UNREADABLE, 12, 4},
+    {{TEXT("user-agent:")}, ROBOTS_ANSWERED, ROBOTS_KIND_AGENT_UNREADABLE, 0, 0},
+    /* "no octet under 0x21; 0x7F is accepted; surrogates and overlong forms aren't" */
+    {{TEXT("allow: /a b")}, ROBOTS_ANSWERED, ROBOTS_KIND_ALLOW_UNREADABLE, 7, 4},
+    {{TEXT("allow: /\0")}, ROBOTS_ANSWERED, ROBOTS_KIND_ALLOW_UNREADABLE, 7, 2},
+    {{TEXT("allow: /\x7F")}, ROBOTS_ANSWERED, ROBOTS_KIND_ALLOW_READABLE, 7, 2},
+    {{TEXT("allow: /\xE3\x83\x84")}, ROBOTS_ANSWERED, ROBOTS_KIND_ALLOW_READABLE, 7, 4},
+    {{TEXT("allow: /\xE3\x83")}, ROBOTS_ANSWERED, ROBOTS_KIND_ALLOW_UNREADABLE, 7, 3},
+    {{TEXT("allow: /\xED\xA0\x80")}, ROBOTS_ANSWERED, ROBOTS_KIND_ALLOW_UNREADABLE, 7, 4},
+    {{TEXT("allow: /\xC0\xAF")}, ROBOTS_ANSWERED, ROBOTS_KIND_ALLOW_UNREADABLE, 7, 3},
+    /* "No leading mark is skipped here." */
+    {{TEXT("\xEF\xBB\xBF" "allow: /")}, ROBOTS_ANSWERED, ROBOTS_KIND_OTHER, 0, 0},
+    /* "line holds CR or LF" */
+    {{TEXT("allow: /\n")}, ROBOTS_SEVERAL_LINES, ROBOTS_KIND_REFUSED, 0, 0},
+    {{TEXT("\rallow: /")}, ROBOTS_SEVERAL_LINES, ROBOTS_KIND_REFUSED, 0, 0},
+    {{TEXT("allow: / # \r\n")}, ROBOTS_SEVERAL_LINES, ROBOTS_KIND_REFUSED, 0, 0},
+};
+
+static const struct path_row path_rows[] = {
+    /* RFC 9309, figures 4 and 6 */
+    {{TEXT("/foo/bar?baz=quz")}, {TEXT("/foo/bar?baz=quz")}},
+    {{TEXT("/foo/bar/\xE3\x83\x84")}, {TEXT("/foo/bar/%E3%83%84")}},
+    {{TEXT("/foo/bar/%E3%83%84")}, {TEXT("/foo/bar/%E3%83%84")}},
+    {{TEXT("/foo/bar/%62%61%7A")}, {TEXT("/foo/bar/baz")}},
+    {{TEXT("/path/file-with-a-*.html")}, {TEXT("/path/file-with-a-%2A.html")}},
+    {{TEXT("/path/foo-$")}, {TEXT("/path/foo-%24")}},
+    /* "The second row, which encodes ":" and "/" inside a query, isn't followed." */
+    {{TEXT("/foo/bar?baz=https://foo.bar")}, {TEXT("/foo/bar?baz=https://foo.bar")}},
+    /* document 01's table, third row */
+    {{TEXT("/%72obots.txt")}, {TEXT("/robots.txt")}},
+    /* "if the octet meant is unreserved [..], that octet" */
+    {{TEXT("/%41%7a%30%2d%2E%5f%7e")}, {TEXT("/Az0-._~")}},
+    /* "otherwise "%" and the two digits in upper case" */
+    {{TEXT("/%2f%2A%3c%e3%00")}, {TEXT("/%2F%2A%3C%E3%00")}},
+    /* "any other "%": %25" */
+    {{TEXT("/%")}, {TEXT("/%25")}},
+    {{TEXT("/%4")}, {TEXT("/%254")}},
+    {{TEXT("/%zz%4g%%41")}, {TEXT("/%25zz%254g%25A")}},
+    /* "an octet of 0x7F or more: "%" and two upper-case hex digits" */
+    {{TEXT("/\x7F\x80\xFF")}, {TEXT("/%7F%80%FF")}},
+    /* "anything else as it is" */
+    {{TEXT("/")}, {TEXT("/")}},
+    {{TEXT("/!\"&'()+,:;<=>?@[\\]^`{|}~")}, {TEXT("/!\"&'()+,:;<=>?@[\\]^`{|}~")}},
+};
+
+static const struct refused_row refused_rows[] = {
+    /* the table of refusals, "the smallest number first" */
+    {{TEXT("")}, ROBOTS_PATH_LENGTH},
+    {{TEXT("a")}, ROBOTS_PATH_START},
+    {{TEXT("%2F")}, ROBOTS_PATH_START},
+    {{TEXT("#")}, ROBOTS_PATH_START},
+    {{TEXT("/a b")}, ROBOTS_PATH_OCTET},
+    {{TEXT("/#")}, ROBOTS_PATH_OCTET},
+    {{TEXT("/\0")}, ROBOTS_PATH_OCTET},
+};
+
+static unsigned passed;
+static unsigned failed;
+
+/* Prints at most the first 60 octets. */
+static void show(struct octets text)
+{
+    size_t at;
+
+    for (at = 0; at < text.length && at < 60; at++) {
+        if (text.start[at] > 0x20 && text.start[at] < 0x7F) {
+            putchar(text.start[at]);
+        } else {
+            printf("\\x%02X", (unsigned)text.start[at]);
+        }
+    }
+    printf("%s (%lu octets)", at < text.length ? ".." : "", (unsigned long)text.length);
+}
+
+static void check(const char *what, struct octets input, size_t answer, size_t expected)
+{
+    if (answer == expected) {
+        passed++;
+        return;
+    }
+    failed++;
+    printf("link test: failed: %s of ", what);
+    show(input);
+    printf(": %lu, not %lu\n", (unsigned long)answer, (unsigned long)expected);
+}
+
+/* Memory of exactly this length, so that a step past it can be found. */
+static uint8_t *memory(size_t length)
+{
+    uint8_t *start = (uint8_t *)malloc(length);
+
+    if (start == NULL && length > 0) {
+        printf("link test: failed: no memory for %lu octets\n", (unsigned long)length);
+        exit(1);
+    }
+    return start;
+}
+
+static uint8_t *copy(struct octets text)
+{
+    uint8_t *start = memory(text.length);
+
+    if (text.length > 0) {
+        memcpy(start, text.start, text.length);
+    }
+    return start;
+}
+
+static void check_line(struct line_row row)
+{
+    uint8_t *line = copy(row.line);
+    size_t length = row.line.length;
+
+    check("line refusal", row.line, robots_line_refusal(line, length), row.refusal);
+    check("line kind", row.line, robots_line_kind(line, length), row.kind);
+    check("line place", row.line, robots_line_place(line, length), row.place);
+    check("line length", row.line, robots_line_length(line, length), row.length);
+    free(line);
+}
+
+/* What a buffer holds before it is lent; no normalised path holds it. */
+static uint8_t before(size_t at)
+{
+    return (uint8_t)(0x80 + at % 127);
+}
+
+/* How many octets of the buffer aren't what they should be. */
+static size_t wrong_octets(const uint8_t *buffer, size_t room, struct octets front)
+{
+    size_t at;
+    size_t wrong = 0;
+
+    for (at = 0; at < room; at++) {
+        wrong += buffer[at] != (at < front.length ? front.start[at] : before(at));
+    }
+    return wrong;
+}
+
+/* Normalises into a buffer of `room` octets; `front` is all that is written. */
+static void check_normalise(struct octets text, size_t room, size_t refusal, struct octets front)
+{
+    uint8_t *path = copy(text);
+    uint8_t *buffer = memory(room);
+    size_t at;
+
+    for (at = 0; at < room; at++) {
+        buffer[at] = before(at);
+    }
+    check("refusal", text, robots_normalise_refusal(path, text.length, room), refusal);
+    check("octets written", text, robots_normalise(path, text.length, buffer, room), front.length);
+    check("wrong octets in the buffer", text, wrong_octets(buffer, room, front), 0);
+    free(buffer);
+    free(path);
+}
+
+/* Just enough room, more, and one octet too little. */
+static void check_path(struct path_row row)
+{
+    struct octets nothing = {NULL, 0};
+    size_t needed = row.normalised.length;
+
+    check_normalise(row.path, needed, ROBOTS_ANSWERED, row.normalised);
+    check_normalise(row.path, needed + 1, ROBOTS_ANSWERED, row.normalised);
+    check_normalise(row.path, needed + 40, ROBOTS_ANSWERED, row.normalised);
+    check_normalise(row.path, needed - 1, ROBOTS_NO_ROOM, nothing);
+    check_normalise(row.path, 0, ROBOTS_NO_ROOM, nothing);
+}
+
+static void check_refused(struct refused_row row)
+{
+    struct octets nothing = {NULL, 0};
+
+    check_normalise(row.path, 0, row.refusal, nothing);
+    check_normalise(row.path, 40, row.refusal, nothing);
+}
+
+static void check_rows(void)
+{
+    size_t row;
+
+    for (row = 0; row < COUNT(line_rows); row++) {
+        check_line(line_rows[row]);
+    }
+    for (row = 0; row < COUNT(path_rows); row++) {
+        check_path(path_rows[row]);
+    }
+    for (row = 0; row < COUNT(refused_rows); row++) {
+        check_refused(refused_rows[row]);
+    }
+}
+
+/* "file, pattern or line longer than 512,000 octets" */
+static void check_longest_line(void)
+{
+    uint8_t *text = memory(512001);
+    struct line_row inside = {{text, 512000}, ROBOTS_ANSWERED, ROBOTS_KIND_ALLOW_READABLE, 6, 511994};
+    struct line_row outside = {{text, 512001}, ROBOTS_TOO_LONG, ROBOTS_KIND_REFUSED, 0, 0};
+
+    memset(text, 'a', 512001);
+    memcpy(text, "allow:/", 7);
+    check_line(inside);
+    text[100] = '\n';
+    check_line(outside);
+    free(text);
+}
+
+/* "a 2,048-octet path (at most 6,142 normalised)" */
+static void check_longest_path(void)
+{
+    uint8_t *text = memory(2049);
+    uint8_t *normal = memory(6142);
+    struct path_row inside = {{text, 2048}, {normal, 6142}};
+    struct refused_row outside = {{text, 2049}, ROBOTS_PATH_LENGTH};
+    size_t at;
+
+    memset(text, '%', 2049);
+    text[0] = '/';
+    normal[0] = '/';
+    for (at = 1; at < 6142; at += 3) {
+        memcpy(normal + at, "%25", 3);
+    }
+    check_path(inside);
+    check_refused(outside);
+    free(normal);
+    free(text);
+}
+
+/* NULL stands for no octets, in each place. */
+static void check_null(void)
+{
+    struct octets nothing = {NULL, 0};
+    struct octets slash = {TEXT("/")};
+    uint8_t buffer[2] = {0x80, 0x81};
+
+    check("line refusal", nothing, robots_line_refusal(NULL, 0), ROBOTS_ANSWERED);
+    check("line kind", nothing, robots_line_kind(NULL, 0), ROBOTS_KIND_BLANK);
+    check("line place", nothing, robots_line_place(NULL, 0), 0);
+    check("line length", nothing, robots_line_length(NULL, 0), 0);
+    check("refusal", nothing, robots_normalise_refusal(NULL, 0, 2), ROBOTS_PATH_LENGTH);
+    check("octets written", nothing, robots_normalise(NULL, 0, NULL, 0), 0);
+    check("octets written", nothing, robots_normalise(NULL, 0, buffer, 2), 0);
+    check("wrong octets in the buffer", nothing, wrong_octets(buffer, 2, nothing), 0);
+    check("refusal", slash, robots_normalise_refusal(slash.start, 1, 0), ROBOTS_NO_ROOM);
+    check("octets written", slash, robots_normalise(slash.start, 1, NULL, 0), 0);
+}
+
+int main(int count, char **words)
+{
+    if (count > 1) {
+        fprintf(stderr, "%s: it takes no arguments: run it alone\n", words[0]);
+        return 2;
+    }
+    check_rows();
+    check_longest_line();
+    check_longest_path();
+    check_null();
+    if (failed > 0) {
+        printf("link test: %u checks failed, %u passed\n", failed, passed);
+        return 1;
+    }
+    printf("link test: %u checks passed\n", passed);
+    return 0;
+}

@@ -1,0 +1,192 @@
+//! Every octet in every part of a line.
+
+use crate::ask::check_line;
+
+const NAMES: [&[u8]; 3] = [b"user-agent", b"allow", b"disallow"];
+
+/// Values of all sorts: of readable and unreadable agents and patterns.
+const VALUES: [&[u8]; 4] = [b"bot", b"*", b"/x", b""];
+
+/// Octets on both sides of each limit of a tail in UTF-8.
+const TAILS: [u8; 10] = [0x21, 0x7F, 0x80, 0x8F, 0x90, 0x9F, 0xA0, 0xBF, 0xC0, 0xFF];
+
+/// Checks the lines that have each octet between these two parts.
+fn check_between(before: &[u8], after: &[u8]) {
+    for octet in 0..=255 {
+        check_line(&[before, &[octet], after].concat());
+    }
+}
+
+/// Checks the lines that have each two octets between these two parts.
+fn check_two_between(before: &[u8], after: &[u8]) {
+    for octet in 0..=255 {
+        check_between(&[before, &[octet]].concat(), after);
+    }
+}
+
+#[test]
+fn alone() {
+    check_line(b"");
+    check_between(b"", b"");
+    check_two_between(b"", b"");
+}
+
+#[test]
+fn in_place_of_an_octet_of_a_field_name() {
+    for name in NAMES {
+        for at in 0..name.len() {
+            for value in VALUES {
+                let after = [&name[at + 1..], b":", value].concat();
+                check_between(&name[..at], &after);
+            }
+        }
+    }
+}
+
+#[test]
+fn put_into_a_field_name() {
+    for name in NAMES {
+        for at in 0..=name.len() {
+            for value in VALUES {
+                let after = [&name[at..], b":", value].concat();
+                check_between(&name[..at], &after);
+            }
+        }
+    }
+}
+
+#[test]
+fn field_names_cut_at_either_end() {
+    for name in NAMES {
+        for at in 0..=name.len() {
+            for value in VALUES {
+                check_line(&[&name[at..], b":", value].concat());
+                check_line(&[&name[..at], b":", value].concat());
+                check_line(&[&name[..at], value].concat());
+            }
+        }
+    }
+}
+
+#[test]
+fn field_names_in_every_mixture_of_cases() {
+    for name in NAMES {
+        for choice in 0..1_usize << name.len() {
+            let upper = |at: usize| choice >> at & 1 == 1;
+            let field = name.iter().enumerate().map(|(at, octet)| match upper(at) {
+                true => octet.to_ascii_uppercase(),
+                false => *octet,
+            });
+            let line: Vec<u8> = field.chain(*b": /x").collect();
+            check_line(&line);
+        }
+    }
+}
+
+#[test]
+fn on_both_sides_of_the_colon() {
+    for name in NAMES {
+        for value in VALUES {
+            let before = [name, b":"].concat();
+            check_two_between(&before, value);
+            let after = [b":", value].concat();
+            check_two_between(name, &after);
+            for octet in 0..=255 {
+                check_between(&[name, &[octet], b":"].concat(), value);
+            }
+        }
+    }
+}
+
+#[test]
+fn in_an_agents_value() {
+    for colon in [b"user-agent:".as_slice(), b" User-Agent\t: "] {
+        for (before, after) in [("", ""), ("", "bot"), ("b", "t"), ("bot", ""), ("", "*")] {
+            let before = [colon, before.as_bytes()].concat();
+            check_between(&before, after.as_bytes());
+            check_two_between(&before, after.as_bytes());
+        }
+        check_between(&[colon, b"*"].concat(), b"");
+    }
+}
+
+#[test]
+fn in_a_pattern() {
+    for colon in [b"allow:".as_slice(), b"disallow:", b"\tDisallow : "] {
+        for (before, after) in [("", ""), ("", "/x"), ("/", "x"), ("/x", "")] {
+            let before = [colon, before.as_bytes()].concat();
+            check_between(&before, after.as_bytes());
+            check_two_between(&before, after.as_bytes());
+        }
+    }
+}
+
+#[test]
+fn before_and_in_a_comment() {
+    for line in [b"user-agent: bot".as_slice(), b"allow: /x", b"x", b""] {
+        check_two_between(line, b"#:");
+        check_two_between(&[line, b"#"].concat(), b"");
+    }
+}
+
+/// Both ends of the line, and both ends of the value.
+#[test]
+fn at_both_ends() {
+    for line in [b"user-agent: bot".as_slice(), b"allow: /x", b"x", b":"] {
+        check_two_between(b"", line);
+        check_two_between(line, b"");
+        for octet in 0..=255 {
+            check_between(&[&[octet], line].concat(), b"");
+        }
+    }
+}
+
+/// A first octet of UTF-8 and every second one, at the end of the pattern and
+/// inside it, and with tails behind them.
+#[test]
+fn two_octets_of_utf8() {
+    for after in ["", "x", "/", "\u{80}"] {
+        check_two_between(b"allow:/", after.as_bytes());
+        check_two_between(b"disallow:/x", after.as_bytes());
+    }
+    check_two_between(b"allow:/", b"\x80");
+    check_two_between(b"allow:/", b"\x80\x80");
+    check_two_between(b"allow:/", b"\xBF\xBF\xBF");
+}
+
+/// Each octet as the second and as the third of three.
+#[test]
+fn three_octets_of_utf8() {
+    for lead in 0xC0..=0xFF {
+        for tail in TAILS {
+            for after in [b"".as_slice(), b"x", b"\x80"] {
+                check_between(b"allow:/".as_slice(), &[&[lead, tail], after].concat());
+                check_between(
+                    &[b"allow:/".as_slice(), &[lead]].concat(),
+                    &[&[tail], after].concat(),
+                );
+                check_between(&[b"allow:/".as_slice(), &[lead, tail]].concat(), after);
+            }
+        }
+    }
+}
+
+/// Each octet as the second, the third and the fourth of four.
+#[test]
+fn four_octets_of_utf8() {
+    for lead in 0xEF..=0xF6 {
+        for one in TAILS {
+            for other in TAILS {
+                for after in [b"".as_slice(), b"x"] {
+                    let before = [b"disallow:/".as_slice(), &[lead]].concat();
+                    check_between(&before, &[&[one, other], after].concat());
+                    check_between(
+                        &[&before, [one].as_slice()].concat(),
+                        &[&[other], after].concat(),
+                    );
+                    check_between(&[&before, [one, other].as_slice()].concat(), after);
+                }
+            }
+        }
+    }
+}

@@ -1,0 +1,54 @@
+//! The examples of the sources, against the answers that are written beside
+//! them.
+
+use examples::{Expected, Question};
+
+use crate::ask;
+
+/// How many rows ask for a normalised path, and how many for a line's kind.
+const NORMALISE_ROWS: usize = 16;
+const LINE_ROWS: usize = 29;
+
+#[test]
+fn every_example_of_normalising() {
+    let mut rows = 0;
+    for row in examples::all().unwrap_or_else(|fault| panic!("{fault}")) {
+        let (Question::Normalise { path }, Expected::Normalise(expected)) =
+            (&row.question, &row.expected)
+        else {
+            continue;
+        };
+        rows += 1;
+        for room in [expected.octets.len(), 6_142] {
+            let answer = ask::normalise(path, room);
+            let message = format!("{}: {} with room {room}", row.id, ask::shown(path));
+            assert_eq!(answer.refusal, expected.refusal, "{message}");
+            assert!(
+                answer.octets == expected.octets,
+                "{message} became {}",
+                ask::shown(&answer.octets)
+            );
+        }
+    }
+    assert_eq!(rows, NORMALISE_ROWS, "rows that ask for a path");
+}
+
+#[test]
+fn every_example_of_a_line() {
+    let mut rows = 0;
+    for row in examples::all().unwrap_or_else(|fault| panic!("{fault}")) {
+        let (Question::Line { line }, Expected::Line(expected)) = (&row.question, &row.expected)
+        else {
+            continue;
+        };
+        rows += 1;
+        assert_eq!(
+            ask::line(line),
+            *expected,
+            "{}: {}",
+            row.id,
+            ask::shown(line)
+        );
+    }
+    assert_eq!(rows, LINE_ROWS, "rows that ask for a line");
+}

@@ -1,0 +1,78 @@
+-- The line ending that a text begins with, and the leading mark of a file, octet by octet. Assumes nothing.
+use Prim.Native.Nat.{ℕ, _≤_, _<_}
+use mathlib.Core.Path.{_≡_, refl}
+use mathlib.Core.Bool.{Bool, true, false, _&&_, _||_, not, true≢false, false≢true}
+use mathlib.Core.List.{List, [], _∷_}
+use native.Mathlib.Omega.{arith}
+use lib.Dec.{eqb}
+use lib.ListN.{length, getD}
+use borrow.Author.Tests.{eqb-true}
+use Rattle.lists.specs.Choice.{if_then_else_}
+use Rattle.lists.proofs.Bools.{and-left, and-right}
+use Rattle.protocol.specs.Octets.{is, lineEnd}
+use Rattle.protocol.specs.Text.{begins}
+use Rattle.protocol.specs.Lines.{endingLength, marked}
+
+pub no-ending : (s : List ℕ) → length s ≡ 0 → endingLength s ≡ 0
+unfolding endingLength
+no-ending [] h = refl
+no-ending (c ∷ l) h = absurd (omega arith)
+
+pub text-ending : (s : List ℕ) → 0 < length s → lineEnd (getD s 0 0) ≡ false → endingLength s ≡ 0
+unfolding endingLength
+text-ending [] h e = absurd (omega arith)
+text-ending (c ∷ l) h e = rw e
+
+-- the octets of an ending, by three tests: its first octet is CR, it is LF, an LF follows
+abbrev size : Bool → Bool → Bool → ℕ
+size cr lf follows = if cr || lf then (if lf || (cr && not follows) then 1 else 2) else 0
+
+pub last-ending : (s : List ℕ) → length s ≡ 1 → lineEnd (getD s 0 0) ≡ true → endingLength s ≡ 1
+unfolding endingLength lineEnd begins
+last-ending [] h e = absurd (omega arith)
+last-ending (c ∷ []) h e = go (is "\r" c) (is "\n" c) e
+  where
+    go : (r f : Bool) → (r || f) ≡ true → size r f false ≡ 1
+    go true true k = refl
+    go true false k = refl
+    go false true k = refl
+    go false false k = absurd (false≢true k)
+last-ending (c ∷ d ∷ l) h e = absurd (omega arith)
+
+-- more octets than one: a CR LF, and any other ending
+pub two-ending : (s : List ℕ) → 1 < length s → lineEnd (getD s 0 0) ≡ true → (is "\r" (getD s 0 0) && is "\n" (getD s 1 0)) ≡ true → endingLength s ≡ 2
+unfolding endingLength lineEnd begins
+two-ending [] h e g = absurd (omega arith)
+two-ending (c ∷ []) h e g = absurd (omega arith)
+two-ending (c ∷ d ∷ l) h e g =
+    let cr : c ≡ 13 = eqb-true c 13 (and-left (is "\r" c) (is "\n" d) g) in
+    let lf : d ≡ 10 = eqb-true d 10 (and-right (is "\r" c) (is "\n" d) g) in
+    rw (cr, lf)
+
+pub one-ending : (s : List ℕ) → 1 < length s → lineEnd (getD s 0 0) ≡ true → (is "\r" (getD s 0 0) && is "\n" (getD s 1 0)) ≡ false → endingLength s ≡ 1
+unfolding endingLength lineEnd begins
+one-ending [] h e g = absurd (omega arith)
+one-ending (c ∷ []) h e g = absurd (omega arith)
+one-ending (c ∷ d ∷ l) h e g = go (is "\r" c) (is "\n" c) (is "\n" d) e g
+  where
+    go : (r f lf : Bool) → (r || f) ≡ true → (r && lf) ≡ false → size r f lf ≡ 1
+    go true true lf k m = refl
+    go true false true k m = absurd (true≢false m)
+    go true false false k m = refl
+    go false true lf k m = refl
+    go false false lf k m = absurd (false≢true k)
+
+pub mark-short : (s : List ℕ) → length s < 3 → marked s ≡ false
+unfolding marked
+mark-short [] h = refl
+mark-short (a ∷ []) h = refl
+mark-short (a ∷ b ∷ []) h = refl
+mark-short (a ∷ b ∷ c ∷ l) h = absurd (omega arith)
+
+pub mark-read : (s : List ℕ) → 3 ≤ length s
+    → marked s ≡ (eqb (getD s 0 0) 0xEF && eqb (getD s 1 0) 0xBB && eqb (getD s 2 0) 0xBF)
+unfolding marked
+mark-read [] h = absurd (omega arith)
+mark-read (a ∷ []) h = absurd (omega arith)
+mark-read (a ∷ b ∷ []) h = absurd (omega arith)
+mark-read (a ∷ b ∷ c ∷ l) h = refl

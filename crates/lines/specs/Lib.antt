@@ -1,0 +1,4 @@
+pub mod Due
+pub mod Fields
+pub mod Parts
+pub mod Spans

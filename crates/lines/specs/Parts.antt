@@ -1,0 +1,16 @@
+-- Parts of a text, as two places in it. Assumes nothing.
+use Prim.Native.Nat.{ℕ, _+_}
+use mathlib.Core.Bool.{Bool}
+use mathlib.Core.List.{List}
+use lib.Dec.{eqb}
+use lib.ListN.{length}
+use Rattle.protocol.specs.Text.{lead, trim}
+use Rattle.lines.specs.declared.text.Part.{Part}
+
+-- y is the octet x
+abbrev pub equals : ℕ → ℕ → Bool
+equals x y = eqb y x
+
+-- where a text stands in itself "without spaces and tabs at its ends"
+unfoldable pub trimmedPart : List ℕ → Part
+trimmedPart l = record { start = lead l; end = lead l + length (trim l) }

@@ -1,0 +1,62 @@
+-- Tests of lists, from one index to the next as a loop goes. Assumes nothing.
+use Prim.Native.Nat.{ℕ, suc, _+_, _≤_, _<_}
+use mathlib.Core.Path.{_≡_, refl, ap}
+use mathlib.Core.Bool.{Bool, true, false, and-true, and-false}
+use mathlib.Core.List.{List, [], _∷_}
+use native.Mathlib.Omega.{arith}
+use lib.Dec.{eqb}
+use lib.ListN.{length, drop, getD, drop-of-length-le}
+use borrow.Author.Tests.{eq-eqb, ne-eqb}
+use Rattle.lists.specs.Lists.{empty, all, same}
+use Rattle.lists.proofs.Scans.{drop-one}
+
+module _ {A : Type 0} where
+  pub empty-none : (l : List A) → length l ≡ 0 → empty l ≡ true
+  empty-none [] h = refl
+  empty-none (x ∷ l) h = absurd (omega arith)
+
+  pub empty-some : (l : List A) → (length l ≡ 0 → ⊥) → empty l ≡ false
+  empty-some [] h = absurd (h refl)
+  empty-some (x ∷ l) h = refl
+
+module _ {A : Type 0} (f : A → Bool) (l : List A) (i : ℕ) where
+  pub all-end : length l ≤ i → all f (drop i l) ≡ true
+  unfolding all
+  all-end h = rw (drop-of-length-le l h)
+
+  module _ (d : A) (h : i < length l) where
+    pub all-here : f (getD l i d) ≡ false → all f (drop i l) ≡ false
+    unfolding all
+    all-here e = rw (drop-one l i d h, e)
+
+    pub all-on : f (getD l i d) ≡ true → all f (drop i l) ≡ all f (drop (i + 1) l)
+    unfolding all
+    all-on e = rw (drop-one l i d h, e)
+
+-- lists of two lengths are not the same
+pub same-length : (l m : List ℕ) → (length l ≡ length m → ⊥) → same l m ≡ false
+unfolding same
+same-length [] [] h = absurd (h refl)
+same-length [] (y ∷ m) h = refl
+same-length (x ∷ l) [] h = refl
+same-length (x ∷ l) (y ∷ m) h = rw (same-length l m (λ e. h (ap suc e))) (and-false (eqb x y))
+
+pub same-one : (l : List ℕ) (y : ℕ) → length l ≡ 1 → same l (y ∷ []) ≡ eqb (getD l 0 0) y
+unfolding same
+same-one [] y h = absurd (omega arith)
+same-one (x ∷ []) y h = and-true (eqb x y)
+same-one (x ∷ z ∷ l) y h = absurd (omega arith)
+
+module _ (l m : List ℕ) (i : ℕ) where
+  pub same-end : length l ≤ i → length m ≤ i → same (drop i l) (drop i m) ≡ true
+  unfolding same
+  same-end h k = rw (drop-of-length-le l h, drop-of-length-le m k)
+
+  module _ (h : i < length l) (k : i < length m) where
+    pub same-other : (getD l i 0 ≡ getD m i 0 → ⊥) → same (drop i l) (drop i m) ≡ false
+    unfolding same
+    same-other e = rw (drop-one l i 0 h, drop-one m i 0 k, ne-eqb _ _ e)
+
+    pub same-on : getD l i 0 ≡ getD m i 0 → same (drop i l) (drop i m) ≡ same (drop (i + 1) l) (drop (i + 1) m)
+    unfolding same
+    same-on e = rw (drop-one l i 0 h, drop-one m i 0 k, eq-eqb _ _ e)

@@ -1,0 +1,7 @@
+pub mod Cuts
+mod Forms
+mod Rooms
+mod Sorts
+mod Steps
+pub mod Marks
+pub mod Refused

@@ -1,0 +1,95 @@
+-- The refusals, row by row, and what a refused normalising writes. Assumes nothing.
+use Prim.Native.Nat.{ℕ, zero, suc, _≤_, _<_}
+use mathlib.Core.Path.{_≡_, refl, sym, _∙_}
+use mathlib.Core.Bool.{not}
+use mathlib.Core.List.{List, [], _∷_, _++_}
+use native.Mathlib.Omega.{arith}
+use lib.Dec.{leb, eqb}
+use lib.ListN.{length, getD}
+use borrow.Author.Tests.{lt-ltb, le-ltb, leb-true, leb-false, eqb-true, eqb-false}
+use Rattle.lists.specs.Choice.{if_then_else_}
+use Rattle.lists.specs.Lists.{any}
+use Rattle.lists.specs.Each.{Each}
+use Rattle.lists.proofs.Bools.{split}
+use Rattle.protocol.specs.Text.{begins}
+use Rattle.protocol.specs.Normal.{normalPath}
+use Rattle.protocol.specs.Refusals.{Row, outsidePath, noRoom, pathRows, refusal, normaliseRefusal}
+use Rattle.protocol.specs.Answers.{writtenBy, normalWritten}
+
+-- no number of a row is that of an answer
+abbrev pub Numbered : List Row → Type 0
+Numbered rows = Each (λ r. 0 < r .number) rows
+
+pub path-numbered : (path : List ℕ) → Numbered (pathRows path)
+path-numbered path = (omega arith, (omega arith, (omega arith, tt)))
+
+-- what is refused by the first rows is refused so by all
+pub refused-first : (rows more : List Row) → (refusal rows ≡ 0 → ⊥) → refusal (rows ++ more) ≡ refusal rows
+unfolding refusal
+refused-first [] more h = absurd (h refl)
+refused-first (r ∷ rows) more h =
+    split (r .given) (λ e. rw e) (λ e. rw e (refused-first rows more (rw e at h)))
+
+-- what isn't refused by the first rows is up to the others
+pub refused-later : (rows more : List Row) → Numbered rows → refusal rows ≡ 0 → refusal (rows ++ more) ≡ refusal more
+unfolding refusal
+refused-later [] more n h = refl
+refused-later (r ∷ rows) more n h =
+    split (r .given)
+    (λ e. let z : r .number ≡ 0 = rw e at h in absurd (omega (arith, n .0)))
+    (λ e. rw e (refused-later rows more (n .1) (rw e at h)))
+
+-- a path's rows
+pub path-empty : (path : List ℕ) → length path ≡ 0 → refusal (pathRows path) ≡ 3
+unfolding refusal
+path-empty [] h = refl
+path-empty (x ∷ l) h = absurd (omega arith)
+
+pub path-long : (path : List ℕ) → 2_048 < length path → refusal (pathRows path) ≡ 3
+unfolding refusal
+path-long [] h = absurd (omega arith)
+path-long (x ∷ l) h = rw (lt-ltb 2_048 (length (x ∷ l)) h)
+
+pub path-else : (path : List ℕ) → 0 < length path → length path ≤ 2_048
+    → refusal (pathRows path) ≡ (if not (eqb (getD path 0 0) 47) then 4 else if any outsidePath path then 5 else 0)
+unfolding refusal begins
+path-else [] h k = absurd (omega arith)
+path-else (x ∷ l) h k = rw (le-ltb 2_048 (length (x ∷ l)) k)
+
+writes-nothing : (n : ℕ) (out : List ℕ) → (n ≡ 0 → ⊥) → writtenBy n out ≡ []
+unfolding writtenBy
+writes-nothing zero out h = absurd (h refl)
+writes-nothing (suc n) out h = refl
+
+module _ (path buffer : List ℕ) where
+  pub refused-writes : (normaliseRefusal (length buffer) path ≡ 0 → ⊥) → normalWritten path buffer ≡ []
+  unfolding normalWritten
+  refused-writes h = writes-nothing (normaliseRefusal (length buffer) path) (normalPath path) h
+
+  pub answered-writes : normaliseRefusal (length buffer) path ≡ 0 → normalWritten path buffer ≡ normalPath path
+  unfolding normalWritten writtenBy
+  answered-writes h = rw h
+
+-- a path that no row of its own refuses is refused for want of room
+module _ (room : ℕ) (path : List ℕ) where
+  pub room-else : (refusal (pathRows path) ≡ 0 → ⊥) → normaliseRefusal room path ≡ refusal (pathRows path)
+  unfolding normaliseRefusal
+  room-else h = refused-first (pathRows path) (noRoom room path ∷ []) h
+
+  pub room-fits : refusal (pathRows path) ≡ 0 → length (normalPath path) ≤ room → normaliseRefusal room path ≡ 0
+  unfolding normaliseRefusal refusal
+  room-fits h k =
+      refused-later (pathRows path) (noRoom room path ∷ []) (path-numbered path) h ∙ rw (le-ltb room (length (normalPath path)) k)
+
+  pub room-short : refusal (pathRows path) ≡ 0 → room < length (normalPath path) → normaliseRefusal room path ≡ 6
+  unfolding normaliseRefusal refusal
+  room-short h k =
+      refused-later (pathRows path) (noRoom room path ∷ []) (path-numbered path) h ∙ rw (lt-ltb room (length (normalPath path)) k)
+
+  pub room-known : normaliseRefusal room path ≡ 0 → length (normalPath path) ≤ room
+  room-known h =
+      split (eqb (refusal (pathRows path)) 0)
+      (λ e.
+      split (leb (length (normalPath path)) room) (λ f. leb-true (length (normalPath path)) room f)
+      (λ f. absurd (omega (arith, h, room-short (eqb-true (refusal (pathRows path)) 0 e) (leb-false (length (normalPath path)) room f)))))
+      (λ e. let n = eqb-false (refusal (pathRows path)) 0 e in absurd (n (sym (room-else n) ∙ h)))

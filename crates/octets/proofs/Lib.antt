@@ -1,0 +1,2 @@
+pub mod Every
+mod Ladders

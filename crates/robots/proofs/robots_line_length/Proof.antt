@@ -1,0 +1,17 @@
+-- `robots::robots_line_length` meets its contract. Assumes nothing.
+use mathlib.Core.Path.{ap, _∙_}
+use Rattle.protocol.specs.Answers.{valueLength}
+use Rattle.robots.proofs.robots_line_length.Statement.{statement}
+use Rattle.robots.proofs.robots_line_length.Tie as tie
+
+line-answer-requires : tie.Need-line-answer-requires
+line-answer-requires c κs = tt
+
+value-length-requires : tie.Need-value-length-requires
+value-length-requires c κs = tt
+
+returns : tie.Need-returns
+returns c = c .value-length .ensures ∙ ap valueLength (c .before .line-answer .ensures)
+
+pub robots-line-length-spec : {M : Type 1} → statement M
+robots-line-length-spec = tie.close (tie.spec line-answer-requires value-length-requires returns)

@@ -1,0 +1,20 @@
+-- `robots::robots_normalise` meets its contract. Assumes nothing.
+use mathlib.Core.Path.{ap}
+use borrow.Author.Needs.{needs}
+use Rattle.protocol.specs.declared.Normalised.{Normalised}
+use Rattle.robots.proofs.robots_normalise.Statement.{statement}
+use Rattle.robots.proofs.robots_normalise.Tie as tie
+
+normalise-requires : tie.Need-normalise-requires
+normalise-requires c κs = tt
+
+same-length : tie.Need-same-length
+same-length c = search needs
+
+returns : tie.Need-returns
+returns c =
+    let n = c .before .before .normalise in
+    (ap (λ (a : Normalised). a .written) (n .ensures .0), n .ensures .1)
+
+pub robots-normalise-spec : {M : Type 1} → statement M
+robots-normalise-spec = tie.close (tie.spec normalise-requires same-length returns)

@@ -1,0 +1,124 @@
+/*
+ * robots.h - questions about robots.txt files (RFC 9309).
+ *
+ * Each function answers one number of one question and keeps nothing between
+ * calls. It allocates no memory, and ends with an answer on any octets.
+ *
+ * Octets are given as a pointer and a length. The caller owes:
+ * - the pointer points to at least `length` octets that may be read and are
+ *   initialised. It may be NULL only if the length is 0;
+ * - nobody changes these octets during the call.
+ * The octets needn't end with NUL, and a NUL among them is an octet like
+ * others.
+ *
+ * Places count from 0.
+ */
+#ifndef ROBOTS_H
+#define ROBOTS_H
+
+#include <stddef.h>
+#include <stdint.h>
+
+#ifdef __cplusplus
+extern "C" {
+#endif
+
+/* Why a question is refused. The smallest number that holds is given. */
+enum robots_refusal {
+    ROBOTS_ANSWERED = 0,      /* not refused */
+    ROBOTS_TOO_LONG = 1,      /* line longer than ROBOTS_LINE_MOST octets */
+    ROBOTS_PATH_LENGTH = 3,   /* path empty, or over ROBOTS_PATH_MOST octets */
+    ROBOTS_PATH_START = 4,    /* path doesn't begin with "/" */
+    ROBOTS_PATH_OCTET = 5,    /* path holds an octet of 0x20 or less, or "#" */
+    ROBOTS_NO_ROOM = 6,       /* normalised path longer than the buffer */
+    ROBOTS_SEVERAL_LINES = 9  /* line holds CR or LF */
+};
+
+/* The kinds of lines. */
+enum robots_kind {
+    ROBOTS_KIND_REFUSED = 0,             /* no kind: see robots_line_refusal */
+    ROBOTS_KIND_BLANK = 1,               /* empty, spaces, or a comment only */
+    ROBOTS_KIND_NOISE = 2,               /* no colon */
+    ROBOTS_KIND_OTHER = 3,               /* a field that isn't named below */
+    ROBOTS_KIND_AGENT_READABLE = 4,      /* user-agent: "*" or a name */
+    ROBOTS_KIND_AGENT_UNREADABLE = 5,    /* user-agent: anything else */
+    ROBOTS_KIND_ALLOW_EMPTY = 6,         /* allow: no pattern */
+    ROBOTS_KIND_ALLOW_READABLE = 7,      /* allow: a readable pattern */
+    ROBOTS_KIND_ALLOW_UNREADABLE = 8,    /* allow: anything else */
+    ROBOTS_KIND_DISALLOW_EMPTY = 9,      /* disallow: no pattern */
+    ROBOTS_KIND_DISALLOW_READABLE = 10,  /* disallow: a readable pattern */
+    ROBOTS_KIND_DISALLOW_UNREADABLE = 11 /* disallow: anything else */
+};
+
+/* The longest inputs that are answered, and the longest outcome. */
+enum robots_limit {
+    ROBOTS_LINE_MOST = 512000,    /* octets of a line */
+    ROBOTS_PATH_MOST = 2048,      /* octets of a path */
+    ROBOTS_NORMALISED_MOST = 6142 /* octets of a normalised path */
+};
+
+/*
+ * Normalises a path, with its query if any, into the front of `buffer`.
+ *
+ * Answers the number of octets written, at least 1; the rest of the buffer
+ * stays as it was. No NUL is added. If refused, the answer is 0 and nothing
+ * is written; robots_normalise_refusal says why. A buffer of
+ * ROBOTS_NORMALISED_MOST octets is never too small.
+ *
+ * The caller owes, besides the above: `buffer` points to `buffer_length`
+ * octets that may be written and are initialised (NULL only if that is 0), it
+ * doesn't overlap `path`, and nobody else reads or writes it during the call.
+ */
+size_t robots_normalise(const uint8_t *path, size_t path_length,
+                        uint8_t *buffer, size_t buffer_length);
+
+/*
+ * Why robots_normalise refuses this path with a buffer of `room` octets.
+ *
+ * Answers ROBOTS_ANSWERED (0) if it doesn't, else ROBOTS_PATH_LENGTH (3),
+ * ROBOTS_PATH_START (4), ROBOTS_PATH_OCTET (5) or ROBOTS_NO_ROOM (6). `room`
+ * is a number only: no buffer is lent, and any number may be given.
+ */
+size_t robots_normalise_refusal(const uint8_t *path, size_t path_length,
+                                size_t room);
+
+/*
+ * Why a line, given without its line ending, is refused.
+ *
+ * Answers ROBOTS_ANSWERED (0) if it isn't, else ROBOTS_TOO_LONG (1) or
+ * ROBOTS_SEVERAL_LINES (9).
+ */
+size_t robots_line_refusal(const uint8_t *line, size_t line_length);
+
+/*
+ * The kind of one line, given without its line ending.
+ *
+ * Answers a number of enum robots_kind; ROBOTS_KIND_REFUSED (0) if the line
+ * is refused. The octets EF BB BF, which may begin a file, are octets like
+ * others here: skip them before giving a file's first line.
+ */
+size_t robots_line_kind(const uint8_t *line, size_t line_length);
+
+/*
+ * The place in the line of an agent's value or a rule's pattern.
+ *
+ * Answers 0 if the line is refused, if that value or pattern is empty, and
+ * for every other kind of line. Otherwise the octets from this place on, as
+ * many as robots_line_length answers, lie inside the line.
+ */
+size_t robots_line_place(const uint8_t *line, size_t line_length);
+
+/*
+ * The length of an agent's value or a rule's pattern, without the spaces and
+ * tabs around it and without a comment.
+ *
+ * Answers 0 if the line is refused, if that value or pattern is empty, and
+ * for every other kind of line.
+ */
+size_t robots_line_length(const uint8_t *line, size_t line_length);
+
+#ifdef __cplusplus
+}
+#endif
+
+#endif
