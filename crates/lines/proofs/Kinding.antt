@@ -1,12 +1,12 @@
 -- The kind of a line, by what each test of it finds. Assumes nothing.
-use Prim.Native.Nat.{ℕ, _+_, _≤_, _<_}
+use Prim.Native.Nat.{ℕ, _+_, _-_, _≤_, _<_}
 use mathlib.Core.Path.{_≡_, refl}
 use mathlib.Core.Bool.{true, false}
 use mathlib.Core.List.{List, [], _∷_}
 use native.Mathlib.Omega.{arith}
 use lib.ListN.{length, take, drop}
 use Rattle.lists.specs.Lists.{upTo}
-use Rattle.lists.proofs.Scans.{any-some, any-none, take-upTo, drop-past}
+use Rattle.lists.proofs.Scans.{any-some, any-none, take-upTo, drop-past, rest-of}
 use Rattle.protocol.specs.declared.Side.{Side}
 use Rattle.protocol.specs.declared.Agent.{Agent}
 use Rattle.protocol.specs.declared.Pattern.{Pattern}
@@ -16,6 +16,9 @@ use Rattle.protocol.specs.Text.{lead, trim}
 use Rattle.protocol.specs.Lines.{placeAt}
 use Rattle.protocol.specs.Readable.{readableAgent, readablePattern}
 use Rattle.protocol.specs.Kinds.{agentAt, patternAt, isField, fieldKind, recordKind, restKind, uncommented, kindOf}
+use Rattle.lines.specs.declared.text.Part.{Part}
+use Rattle.lines.specs.Parts.{trimmedPart}
+use Rattle.lines.proofs.Trims.{part-start, part-read}
 
 -- an agent's value, at the place p of its line
 pub agent-none : (v : List ℕ) (p : ℕ) → length v ≡ 0 → Agent.Unreadable (placeAt 0) 0 ≡ agentAt p v
@@ -71,12 +74,26 @@ module _ (field v : List ℕ) (p : ℕ) where
   other-field a b c = rw (a, b, c)
 
 -- what is left of a line, at the place p
-pub record-told : (l : List ℕ) (p colon : ℕ) → colon ≡ length (upTo (is ":") l)
+record-told : (l : List ℕ) (p colon : ℕ) → colon ≡ length (upTo (is ":") l)
     → fieldKind (trim (take colon l)) (p + (colon + 1) + lead (drop (colon + 1) l)) (trim (drop (colon + 1) l)) ≡ recordKind p l
 unfolding recordKind
 record-told l p colon e =
     let place : p + (colon + 1) ≡ p + colon + 1 = omega arith in
     rw (place, e, take-upTo (is ":") l, drop-past (is ":") l)
+
+-- the same, with the field and the value read from their two places, f and v
+module _ (l : List ℕ) (p colon : ℕ) (f v : Part) where
+  abbrev front : List ℕ
+  front = take colon l
+
+  abbrev back : List ℕ
+  back = take (length l - (colon + 1)) (drop (colon + 1) l)
+
+  pub record-read : colon ≡ length (upTo (is ":") l) → f ≡ trimmedPart front → v ≡ trimmedPart back
+      → fieldKind (take (f .end - f .start) (drop (f .start) front)) (p + (colon + 1) + v .start) (take (v .end - v .start) (drop (v .start) back))
+      ≡ recordKind p l
+  record-read e g h =
+      rw (part-read front f g, part-read back v h, part-start back v h, rest-of (colon + 1) l) (record-told l p colon e)
 
 pub record-rest : (l : List ℕ) (p : ℕ) → length (upTo (is ":") l) < length l → recordKind p l ≡ restKind p l
 unfolding restKind

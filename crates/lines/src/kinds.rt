@@ -5,7 +5,6 @@ ghost use Prim.Native.Nat.{_+_, _<_, _^_};
 ghost use lib.ListN.{length};
 ghost use Rattle.lists.specs.Lists.{upTo};
 ghost use Rattle.protocol.specs.Octets.{is};
-ghost use Rattle.protocol.specs.Text.{lead, trim};
 ghost use Rattle.protocol.specs.Kinds.{agentAt, patternAt, fieldKind, recordKind, restKind, kindOf};
 use protocol::Agent;
 use protocol::Kind;
@@ -13,61 +12,46 @@ use protocol::Pattern;
 use protocol::Place;
 use protocol::Side;
 
-// The agent that a value names. The value, with spaces and tabs at its ends, stands at the place `at` of the line.
-fn agent_of(at: Place, value: &[u8]) -> Agent
-    requires { ⌜ at .offset + length (now value) < 2 ^ 64 ⌝ }
-    ensures { λ r. ⌜ r ≡ agentAt (at .offset + lead (now (value .entry))) (trim (now (value .entry))) ⌝ }
+// The agent of a value, which stands at that place of the line.
+fn agent_at(place: Place, value: &[u8]) -> Agent
+    ensures { λ r. ⌜ r ≡ agentAt (place .offset) (now (value .entry)) ⌝ }
 {
-    let part = crate::text::trim(value);
-    let start = part.start;
-    let end = part.end;
-    if start == end {
+    if value.len() == 0 {
         return Agent::Unreadable(Place { offset: 0 }, 0);
     }
-    let place = Place {
-        offset: at.offset + start,
-    };
-    if crate::readable::readable_agent(&value[start..end]) {
-        Agent::Readable(place, end - start)
+    if crate::readable::readable_agent(value) {
+        Agent::Readable(place, value.len())
     } else {
-        Agent::Unreadable(place, end - start)
+        Agent::Unreadable(place, value.len())
     }
 }
 
-// The pattern that a value is, likewise.
-fn pattern_of(at: Place, value: &[u8]) -> Pattern
-    requires { ⌜ at .offset + length (now value) < 2 ^ 64 ⌝ }
-    ensures { λ r. ⌜ r ≡ patternAt (at .offset + lead (now (value .entry))) (trim (now (value .entry))) ⌝ }
+// The pattern of a value, likewise.
+fn pattern_at(place: Place, value: &[u8]) -> Pattern
+    ensures { λ r. ⌜ r ≡ patternAt (place .offset) (now (value .entry)) ⌝ }
 {
-    let part = crate::text::trim(value);
-    let start = part.start;
-    let end = part.end;
-    if start == end {
+    if value.len() == 0 {
         return Pattern::Empty;
     }
-    let place = Place {
-        offset: at.offset + start,
-    };
-    if crate::readable::readable_pattern(&value[start..end]) {
-        Pattern::Readable(place, end - start)
+    if crate::readable::readable_pattern(value) {
+        Pattern::Readable(place, value.len())
     } else {
-        Pattern::Unreadable(place, end - start)
+        Pattern::Unreadable(place, value.len())
     }
 }
 
-// The kind of a line with that field. Where the field is not a rule's, the value is not searched for a pattern.
-fn field_kind(field: &[u8], at: Place, value: &[u8]) -> Kind
-    requires { ⌜ at .offset + length (now value) < 2 ^ 64 ⌝ }
-    ensures { λ r. ⌜ r ≡ fieldKind (now (field .entry)) (at .offset + lead (now (value .entry))) (trim (now (value .entry))) ⌝ }
+// The kind of a line with that field and value. Only a rule's value is searched for a pattern.
+fn field_kind(field: &[u8], place: Place, value: &[u8]) -> Kind
+    ensures { λ r. ⌜ r ≡ fieldKind (now (field .entry)) (place .offset) (now (value .entry)) ⌝ }
 {
     if crate::fields::field_is(0, field) {
-        return Kind::Agent(agent_of(at, value));
+        return Kind::Agent(agent_at(place, value));
     }
     if crate::fields::field_is(1, field) {
-        return Kind::Rule(Side::Allow, pattern_of(at, value));
+        return Kind::Rule(Side::Allow, pattern_at(place, value));
     }
     if crate::fields::field_is(2, field) {
-        return Kind::Rule(Side::Disallow, pattern_of(at, value));
+        return Kind::Rule(Side::Disallow, pattern_at(place, value));
     }
     Kind::Other
 }
@@ -78,15 +62,19 @@ fn record_kind(at: Place, l: &[u8], colon: usize) -> Kind
     requires { ⌜ (colon ≡ length (upTo (is ":") (now l))) × (colon < length (now l)) ⌝ }
     ensures { λ r. ⌜ r ≡ recordKind (at .offset) (now (l .entry)) ⌝ }
 {
-    let name = &l[..colon];
-    let part = crate::text::trim(name);
-    let start = part.start;
-    let end = part.end;
+    let front = &l[..colon];
+    let field = crate::text::trim(front);
+    let first = field.start;
+    let last = field.end;
     let behind = colon + 1;
+    let back = &l[behind..];
+    let value = crate::text::trim(back);
+    let start = value.start;
+    let end = value.end;
     let place = Place {
-        offset: at.offset + behind,
+        offset: at.offset + behind + start,
     };
-    field_kind(&name[start..end], place, &l[behind..])
+    field_kind(&front[first..last], place, &back[start..end])
 }
 
 // The kind of what is left of a line.
