@@ -1,7 +1,7 @@
 #!/bin/sh
 # Runs every test: the layout of the sources, rt ci (every crate proved from nothing, every must-fail edit refused, every program run), what
-# the refusals of the edits rest on, the tests in Rust, and the library linked from C and from C++. Stops at the first step that fails. The last
-# line is rt ci's own, printed only if every step passed.
+# the refusals of the edits rest on, the header against the library, the tests in Rust, the library linked from C and from C++, and the README's
+# example. Stops at the first step that fails. The last line is rt ci's own, printed only if every step passed.
 set -u
 cd "$(dirname "$0")" || exit 2
 
@@ -14,7 +14,7 @@ fail() {
 
 # rustup's own folder may be missing from the search path
 PATH="$PATH:${CARGO_HOME:-${HOME:-}/.cargo}/bin"
-for tool in rt cargo gcc g++ nm; do
+for tool in rt cargo gcc nm; do
     command -v "$tool" >/dev/null || fail "$tool is not installed; see README.md, 'What you need'"
 done
 
@@ -56,7 +56,11 @@ link_test() {
 }
 mkdir -p target/link-test || fail "mkdir -p target/link-test"
 link_test gcc -std=c99
-link_test g++
+if command -v g++ >/dev/null; then
+    link_test g++
+else
+    echo "test.sh: g++ is not installed, so the header is not tried as C++"
+fi
 
 # README.md, 'See it work': its command prints what stands there
 told() { sed -n '/^## See it work/,/^## /s/^    //p' README.md; }

@@ -25,12 +25,23 @@ add-result c = omega arith
 returns-4 : tie.Need-returns-4
 returns-4 c =
     let x = c .before .before .before .before .args .x in
-    rw (le-ltb x 48 (omega arith), lt-leb x 57 (omega arith), le-ltb x 65 (omega arith), le-leb x 90 (omega arith)) at (hex-value-ladder x (omega arith))
+    rw (
+      le-ltb x 48 (omega arith),
+      lt-leb x 57 (omega arith),
+      le-ltb x 65 (omega arith),
+      le-leb x 90 (omega arith),
+    ) at (hex-value-ladder x (omega arith))
 
 returns-5 : tie.Need-returns-5
 returns-5 c =
     let x = c .before .before .before .before .before .args .x in
-    rw (le-ltb x 48 (omega arith), lt-leb x 57 (omega arith), le-ltb x 65 (omega arith), lt-leb x 90 (omega arith), lt-ltb x 97 (omega arith)) at (hex-value-ladder x (omega arith))
+    rw (
+      le-ltb x 48 (omega arith),
+      lt-leb x 57 (omega arith),
+      le-ltb x 65 (omega arith),
+      lt-leb x 90 (omega arith),
+      lt-ltb x 97 (omega arith),
+    ) at (hex-value-ladder x (omega arith))
 
 add-result-2 : tie.Need-add-result-2
 add-result-2 c = omega arith
@@ -38,7 +49,13 @@ add-result-2 c = omega arith
 returns-6 : tie.Need-returns-6
 returns-6 c =
     let x = c .before .before .before .before .before .args .x in
-    rw (le-ltb x 48 (omega arith), lt-leb x 57 (omega arith), le-ltb x 65 (omega arith), lt-leb x 90 (omega arith), le-ltb x 97 (omega arith)) at (hex-value-ladder x (omega arith))
+    rw (
+      le-ltb x 48 (omega arith),
+      lt-leb x 57 (omega arith),
+      le-ltb x 65 (omega arith),
+      lt-leb x 90 (omega arith),
+      le-ltb x 97 (omega arith),
+    ) at (hex-value-ladder x (omega arith))
 
 pub hex-value-spec : {M : Type 1} → statement M
 hex-value-spec =

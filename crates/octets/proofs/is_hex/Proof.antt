@@ -26,7 +26,8 @@ returns-4 c =
 returns-5 : tie.Need-returns-5
 returns-5 c =
     let x = c .before .before .before .args .x in
-    rw (lt-leb 97 x (omega arith)) (rw (le-ltb x 65 (omega arith), lt-leb x 70 (omega arith), lt-leb 97 x (omega arith)) at (hex-ladder x (omega arith)))
+    rw (lt-leb 97 x (omega arith))
+    (rw (le-ltb x 65 (omega arith), lt-leb x 70 (omega arith), lt-leb 97 x (omega arith)) at (hex-ladder x (omega arith)))
 
 pub is-hex-spec : {M : Type 1} → statement M
 is-hex-spec = tie.close (tie.spec returns returns-2 returns-3 returns-4 returns-5)

@@ -28,22 +28,48 @@ returns-4 c =
 returns-5 : tie.Need-returns-5
 returns-5 c =
     let x = c .before .before .before .before .args .x in
-    rw (le-ltb x 48 (omega arith), lt-leb x 57 (omega arith), le-ltb x 65 (omega arith), le-leb x 90 (omega arith)) at (unreserved-ladder x (omega arith))
+    rw (
+      le-ltb x 48 (omega arith),
+      lt-leb x 57 (omega arith),
+      le-ltb x 65 (omega arith),
+      le-leb x 90 (omega arith),
+    ) at (unreserved-ladder x (omega arith))
 
 returns-6 : tie.Need-returns-6
 returns-6 c =
     let x = c .before .before .before .before .before .args .x in
-    rw (le-ltb x 48 (omega arith), lt-leb x 57 (omega arith), le-ltb x 65 (omega arith), lt-leb x 90 (omega arith), lt-ltb x 97 (omega arith)) at (unreserved-ladder x (omega arith))
+    rw (
+      le-ltb x 48 (omega arith),
+      lt-leb x 57 (omega arith),
+      le-ltb x 65 (omega arith),
+      lt-leb x 90 (omega arith),
+      lt-ltb x 97 (omega arith),
+    ) at (unreserved-ladder x (omega arith))
 
 returns-7 : tie.Need-returns-7
 returns-7 c =
     let x = c .before .before .before .before .before .before .args .x in
-    rw (le-leb x 122 (omega arith)) (rw (le-ltb x 48 (omega arith), lt-leb x 57 (omega arith), le-ltb x 65 (omega arith), lt-leb x 90 (omega arith), le-ltb x 97 (omega arith), le-leb x 122 (omega arith)) at (unreserved-ladder x (omega arith)))
+    rw (le-leb x 122 (omega arith))
+    (rw (
+      le-ltb x 48 (omega arith),
+      lt-leb x 57 (omega arith),
+      le-ltb x 65 (omega arith),
+      lt-leb x 90 (omega arith),
+      le-ltb x 97 (omega arith),
+      le-leb x 122 (omega arith),
+    ) at (unreserved-ladder x (omega arith)))
 
 returns-8 : tie.Need-returns-8
 returns-8 c =
     let x = c .before .before .before .before .before .before .args .x in
-    rw (le-ltb x 48 (omega arith), lt-leb x 57 (omega arith), le-ltb x 65 (omega arith), lt-leb x 90 (omega arith), le-ltb x 97 (omega arith), lt-leb x 122 (omega arith)) at (unreserved-ladder x (omega arith))
+    rw (
+      le-ltb x 48 (omega arith),
+      lt-leb x 57 (omega arith),
+      le-ltb x 65 (omega arith),
+      lt-leb x 90 (omega arith),
+      le-ltb x 97 (omega arith),
+      lt-leb x 122 (omega arith),
+    ) at (unreserved-ladder x (omega arith))
 
 pub is-unreserved-spec : {M : Type 1} → statement M
 is-unreserved-spec =
