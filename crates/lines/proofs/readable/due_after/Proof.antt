@@ -1,10 +1,9 @@
--- `lines::readable::due_after` meets its contract: what each arm says is tested at every octet of its range. Assumes nothing.
+-- `lines::readable::due_after` meets its contract: each arm is a row of the table that is tested at all 256 octets. Assumes nothing.
 use mathlib.Core.Path.{refl}
 use mathlib.Core.Logic.{⊎-elim}
 use native.Mathlib.Omega.{arith}
-use Rattle.lists.specs.Lists.{numbersFrom}
-use Rattle.protocol.specs.Readable.{characterForms, dueAfter}
-use Rattle.lines.proofs.Due.{due-on}
+use Rattle.lists.specs.Lists.{all}
+use Rattle.lines.proofs.Due.{rows, due-in}
 use Rattle.lines.proofs.readable.due_after.Statement.{statement}
 use Rattle.lines.proofs.readable.due_after.Tie as tie
 
@@ -42,53 +41,53 @@ never-due-requires : tie.Need-never-due-requires
 never-due-requires c κs = tt
 
 returns : tie.Need-returns
-unfolding numbersFrom dueAfter characterForms
-returns c = due-on (c .due-octets .ensures) 0xE0 0xE0 refl (c .before .before .args .x) (omega arith) (omega arith)
+unfolding rows all
+returns c = due-in 6 0xE0 (c .before .before .args .x) refl refl (c .due-octets .ensures) (omega arith) (omega arith) (omega arith)
 
 returns-2 : tie.Need-returns-2
-unfolding numbersFrom dueAfter characterForms
-returns-2 c = due-on (c .due-octets2 .ensures) 0xED 0xED refl (c .before .before .args .x) (omega arith) (omega arith)
+unfolding rows all
+returns-2 c = due-in 8 0xED (c .before .before .args .x) refl refl (c .due-octets2 .ensures) (omega arith) (omega arith) (omega arith)
 
 returns-3 : tie.Need-returns-3
-unfolding numbersFrom dueAfter characterForms
-returns-3 c = due-on (c .due-octets3 .ensures) 0xF0 0xF0 refl (c .before .before .args .x) (omega arith) (omega arith)
+unfolding rows all
+returns-3 c = due-in 10 0xF0 (c .before .before .args .x) refl refl (c .due-octets3 .ensures) (omega arith) (omega arith) (omega arith)
 
 returns-4 : tie.Need-returns-4
-unfolding numbersFrom dueAfter characterForms
-returns-4 c = due-on (c .due-octets4 .ensures) 0xF4 0xF4 refl (c .before .before .args .x) (omega arith) (omega arith)
+unfolding rows all
+returns-4 c = due-in 12 0xF4 (c .before .before .args .x) refl refl (c .due-octets4 .ensures) (omega arith) (omega arith) (omega arith)
 
 returns-5 : tie.Need-returns-5
-unfolding numbersFrom dueAfter characterForms
-returns-5 c = due-on (c .due-octets5 .ensures) 0x21 0x22 refl (c .before .before .before .before .before .args .x) (omega arith) (omega arith)
+unfolding rows all
+returns-5 c = due-in 1 0x21 (c .before .before .before .before .before .args .x) refl refl (c .due-octets5 .ensures) (omega arith) (omega arith) (omega arith)
 
 returns-6 : tie.Need-returns-6
-unfolding numbersFrom dueAfter characterForms
-returns-6 c = due-on (c .due-octets6 .ensures) 0x24 0x7F refl (c .before .before .before .before .before .before .before .args .x) (omega arith) (omega arith)
+unfolding rows all
+returns-6 c = due-in 3 0x24 (c .before .before .before .before .before .before .before .args .x) refl refl (c .due-octets6 .ensures) (omega arith) (omega arith) (omega arith)
 
 returns-7 : tie.Need-returns-7
-unfolding numbersFrom dueAfter characterForms
-returns-7 c = due-on (c .due-octets7 .ensures) 0xC2 0xDF refl (c .before .before .before .before .args .x) (omega arith) (omega arith)
+unfolding rows all
+returns-7 c = due-in 5 0xC2 (c .before .before .before .before .args .x) refl refl (c .due-octets7 .ensures) (omega arith) (omega arith) (omega arith)
 
 returns-8 : tie.Need-returns-8
-unfolding numbersFrom dueAfter characterForms
-returns-8 c = due-on (c .due-octets8 .ensures) 0xE1 0xEC refl (c .before .before .before .before .before .args .x) (omega arith) (omega arith)
+unfolding rows all
+returns-8 c = due-in 7 0xE1 (c .before .before .before .before .before .args .x) refl refl (c .due-octets8 .ensures) (omega arith) (omega arith) (omega arith)
 
 returns-9 : tie.Need-returns-9
-unfolding numbersFrom dueAfter characterForms
-returns-9 c = due-on (c .due-octets9 .ensures) 0xEE 0xEF refl (c .before .before .before .before .before .before .args .x) (omega arith) (omega arith)
+unfolding rows all
+returns-9 c = due-in 9 0xEE (c .before .before .before .before .before .before .args .x) refl refl (c .due-octets9 .ensures) (omega arith) (omega arith) (omega arith)
 
 returns-10 : tie.Need-returns-10
-unfolding numbersFrom dueAfter characterForms
-returns-10 c = due-on (c .due-octets10 .ensures) 0xF1 0xF3 refl (c .before .before .before .before .before .before .before .args .x) (omega arith) (omega arith)
+unfolding rows all
+returns-10 c = due-in 11 0xF1 (c .before .before .before .before .before .before .before .args .x) refl refl (c .due-octets10 .ensures) (omega arith) (omega arith) (omega arith)
 
 returns-11 : tie.Need-returns-11
-unfolding numbersFrom dueAfter characterForms
+unfolding rows all
 returns-11 c =
     let x = c .before .before .before .args .x in
     let e = c .never-due .ensures in
-    ⊎-elim (λ w. due-on e 0 0x20 refl x (omega arith) (omega arith))
-    (⊎-elim (λ w. due-on e 0x23 0x23 refl x (omega arith) (omega arith))
-    (⊎-elim (λ w. due-on e 0x80 0xC1 refl x (omega arith) (omega arith)) (λ w. due-on e 0xF5 0xFF refl x (omega arith) (omega arith))))
+    ⊎-elim (λ w. due-in 0 0 x refl refl e (omega arith) (omega arith) (omega arith))
+    (⊎-elim (λ w. due-in 2 0x23 x refl refl e (omega arith) (omega arith) (omega arith))
+    (⊎-elim (λ w. due-in 4 0x80 x refl refl e (omega arith) (omega arith) (omega arith)) (λ w. due-in 13 0xF5 x refl refl e (omega arith) (omega arith) (omega arith))))
     (c .before .if1 .came)
 
 pub due-after-spec : {M : Type 1} → statement M
