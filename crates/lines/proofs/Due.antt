@@ -14,7 +14,7 @@ use Rattle.lists.specs.Choice.{if_then_else_}
 use Rattle.octets.proofs.Every.{every-octet}
 use Rattle.protocol.specs.Readable.{Range, holds, utf8Tail, never, characterForms, dueAfter, wellFormed}
 use Rattle.lines.specs.declared.readable.Due.{Due}
-use Rattle.lines.specs.Due.{ranges, dueRanges, duePast, plain, special}
+use Rattle.lines.specs.Due.{ranges, dueRanges, duePast, ordinary, unusual}
 
 -- what is due after the octets up to a bound
 pub record Row : Type 0 where
@@ -83,9 +83,9 @@ module _ (k low x : ℕ) (h : all (λ r. ltb (r .bound) low) (take k rows) ≡ t
   pub due-in : {r : Due} → r ≡ getD rows k last .due → x < 256 → low ≤ x → x ≤ getD rows k last .bound → dueRanges r ≡ dueAfter x characterForms
   due-in e octet p q = ap dueRanges (e ∙ sym (row-picked rows k low x last h i p q)) ∙ rows-told x octet
 
-plain-due : (x : ℕ) → plain x ≡ true → [] ≡ dueAfter x characterForms
+ordinary-due : (x : ℕ) → ordinary x ≡ true → [] ≡ dueAfter x characterForms
 unfolding rows all
-plain-due x h =
+ordinary-due x h =
     let low : 0x24 ≤ x = leb-true 0x24 x (and-left (leb 0x24 x) (leb x 0x7F) h) in
     let high : x ≤ 0x7F = leb-true x 0x7F (and-right (leb 0x24 x) (leb x 0x7F) h) in
     due-in 3 0x24 x refl refl {r = nothing} refl (omega arith) low high
@@ -100,9 +100,9 @@ module _ (low high x : ℕ) where
   unfolding duePast
   past-none n e = rw e
 
-  pub past-plain : (n : ℕ) → n ≡ 0 → plain x ≡ true → ranges low high n ≡ duePast (ranges low high n) x
+  pub past-ordinary : (n : ℕ) → n ≡ 0 → ordinary x ≡ true → ranges low high n ≡ duePast (ranges low high n) x
   unfolding duePast
-  past-plain n e h = rw e (plain-due x h)
+  past-ordinary n e h = rw e (ordinary-due x h)
 
   pub past-under : (n : ℕ) → (n ≡ 0 → ⊥) → x < low → never ∷ [] ≡ duePast (ranges low high n) x
   unfolding duePast
@@ -138,11 +138,11 @@ unfolding wellFormed
 well-formed-end low high zero i l h = rw (drop-of-length-le l h)
 well-formed-end low high (suc n) i l h = rw (drop-of-length-le l h, ne-eqb (suc n) 0 (λ e. omega arith))
 
--- the plain octets in front tell nothing
-pub well-formed-front : (l : List ℕ) → wellFormed [] (drop (length (upTo special l)) l) ≡ wellFormed [] l
+-- the ordinary octets in front tell nothing
+pub well-formed-front : (l : List ℕ) → wellFormed [] (drop (length (upTo unusual l)) l) ≡ wellFormed [] l
 unfolding upTo
 well-formed-front [] = refl
 well-formed-front (x ∷ l) =
-    split (plain x)
-    (λ e. rw (upTo-on special x l (ap not e)) (well-formed-front l ∙ ap (λ (due : List Range). wellFormed due l) (past-plain 0 0 x 0 refl e) ∙ sym (well-formed-past [] x l)))
-    (λ e. rw (upTo-stop special x l (ap not e)))
+    split (ordinary x)
+    (λ e. rw (upTo-on unusual x l (ap not e)) (well-formed-front l ∙ ap (λ (due : List Range). wellFormed due l) (past-ordinary 0 0 x 0 refl e) ∙ sym (well-formed-past [] x l)))
+    (λ e. rw (upTo-stop unusual x l (ap not e)))

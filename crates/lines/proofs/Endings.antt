@@ -1,7 +1,7 @@
 -- The line ending that a text begins with, and the leading mark of a file, octet by octet. Assumes nothing.
 use Prim.Native.Nat.{ℕ, _≤_, _<_}
 use mathlib.Core.Path.{_≡_, refl}
-use mathlib.Core.Bool.{Bool, true, false, _&&_, _||_, not, true≢false, false≢true}
+use mathlib.Core.Bool.{Bool, true, false, _&&_, _||_, not, and-false, true≢false, false≢true}
 use mathlib.Core.List.{List, [], _∷_}
 use native.Mathlib.Omega.{arith}
 use lib.Dec.{eqb}
@@ -23,44 +23,45 @@ unfolding endingLength
 text-ending [] h e = absurd (omega arith)
 text-ending (c ∷ l) h e = rw e
 
--- the octets of an ending, by three tests: its first octet is CR, it is LF, an LF follows
-abbrev size : Bool → Bool → Bool → ℕ
-size cr lf follows = if cr || lf then (if lf || (cr && not follows) then 1 else 2) else 0
+-- an ending of CR LF, and any other
+cr-lf-ending : (c : ℕ) (l : List ℕ) → (is "\r" c && begins "\n" l) ≡ true → endingLength (c ∷ l) ≡ 2
+unfolding endingLength lineEnd
+cr-lf-ending c l h =
+    let cr : c ≡ 13 = eqb-true c 13 (and-left (is "\r" c) (begins "\n" l) h) in
+    rw (cr, and-right (is "\r" c) (begins "\n" l) h)
 
-pub last-ending : (s : List ℕ) → length s ≡ 1 → lineEnd (getD s 0 0) ≡ true → endingLength s ≡ 1
-unfolding endingLength lineEnd begins
-last-ending [] h e = absurd (omega arith)
-last-ending (c ∷ []) h e = go (is "\r" c) (is "\n" c) e
+other-ending : (c : ℕ) (l : List ℕ) → lineEnd c ≡ true → (is "\r" c && begins "\n" l) ≡ false → endingLength (c ∷ l) ≡ 1
+unfolding endingLength lineEnd
+other-ending c l = go (is "\r" c) (is "\n" c) (begins "\n" l)
   where
-    go : (r f : Bool) → (r || f) ≡ true → size r f false ≡ 1
-    go true true k = refl
-    go true false k = refl
-    go false true k = refl
-    go false false k = absurd (false≢true k)
-last-ending (c ∷ d ∷ l) h e = absurd (omega arith)
+    size : Bool → Bool → Bool → ℕ
+    size r f lf = if r || f then (if f || (r && not lf) then 1 else 2) else 0
 
--- more octets than one: a CR LF, and any other ending
-pub two-ending : (s : List ℕ) → 1 < length s → lineEnd (getD s 0 0) ≡ true → (is "\r" (getD s 0 0) && is "\n" (getD s 1 0)) ≡ true → endingLength s ≡ 2
-unfolding endingLength lineEnd begins
-two-ending [] h e g = absurd (omega arith)
-two-ending (c ∷ []) h e g = absurd (omega arith)
-two-ending (c ∷ d ∷ l) h e g =
-    let cr : c ≡ 13 = eqb-true c 13 (and-left (is "\r" c) (is "\n" d) g) in
-    let lf : d ≡ 10 = eqb-true d 10 (and-right (is "\r" c) (is "\n" d) g) in
-    rw (cr, lf)
-
-pub one-ending : (s : List ℕ) → 1 < length s → lineEnd (getD s 0 0) ≡ true → (is "\r" (getD s 0 0) && is "\n" (getD s 1 0)) ≡ false → endingLength s ≡ 1
-unfolding endingLength lineEnd begins
-one-ending [] h e g = absurd (omega arith)
-one-ending (c ∷ []) h e g = absurd (omega arith)
-one-ending (c ∷ d ∷ l) h e g = go (is "\r" c) (is "\n" c) (is "\n" d) e g
-  where
     go : (r f lf : Bool) → (r || f) ≡ true → (r && lf) ≡ false → size r f lf ≡ 1
     go true true lf k m = refl
     go true false true k m = absurd (true≢false m)
     go true false false k m = refl
     go false true lf k m = refl
     go false false lf k m = absurd (false≢true k)
+
+-- one octet is left, or more
+pub last-ending : (s : List ℕ) → length s ≡ 1 → lineEnd (getD s 0 0) ≡ true → endingLength s ≡ 1
+unfolding begins
+last-ending [] h e = absurd (omega arith)
+last-ending (c ∷ []) h e = other-ending c [] e (and-false (is "\r" c))
+last-ending (c ∷ d ∷ l) h e = absurd (omega arith)
+
+pub two-ending : (s : List ℕ) → 1 < length s → (is "\r" (getD s 0 0) && is "\n" (getD s 1 0)) ≡ true → endingLength s ≡ 2
+unfolding begins
+two-ending [] h g = absurd (omega arith)
+two-ending (c ∷ []) h g = absurd (omega arith)
+two-ending (c ∷ d ∷ l) h g = cr-lf-ending c (d ∷ l) g
+
+pub one-ending : (s : List ℕ) → 1 < length s → lineEnd (getD s 0 0) ≡ true → (is "\r" (getD s 0 0) && is "\n" (getD s 1 0)) ≡ false → endingLength s ≡ 1
+unfolding begins
+one-ending [] h e g = absurd (omega arith)
+one-ending (c ∷ []) h e g = absurd (omega arith)
+one-ending (c ∷ d ∷ l) h e g = other-ending c (d ∷ l) e g
 
 pub mark-short : (s : List ℕ) → length s < 3 → marked s ≡ false
 unfolding marked

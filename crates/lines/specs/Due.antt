@@ -22,8 +22,8 @@ duePast [] x = dueAfter x characterForms
 duePast (r ∷ due) x = if holds r x then due else never ∷ []
 
 -- the most frequent octets; each is a character by itself
-abbrev pub plain : ℕ → Bool
-plain x = within 0x24 0x7F x
+abbrev pub ordinary : ℕ → Bool
+ordinary x = within 0x24 0x7F x
 
-abbrev pub special : ℕ → Bool
-special x = not (plain x)
+abbrev pub unusual : ℕ → Bool
+unusual x = not (ordinary x)

@@ -6,7 +6,7 @@ ghost use lib.ListN.{length};
 ghost use Rattle.lists.specs.Lists.{all, upTo, same};
 ghost use Rattle.protocol.specs.Octets.{token};
 ghost use Rattle.protocol.specs.Readable.{everyone, isName, readableAgent, characterForms, dueAfter, wellFormed, patternStart, readablePattern};
-ghost use Rattle.lines.specs.Due.{dueRanges, duePast, plain, special};
+ghost use Rattle.lines.specs.Due.{dueRanges, duePast, ordinary, unusual};
 
 // The octets that a character still lacks: `more` of them, the next from `low` to `high`, those behind it UTF8-tails.
 struct Due {
@@ -47,8 +47,8 @@ fn due_after(x: u8) -> Due
     }
 }
 
-fn is_plain(x: u8) -> bool
-    ensures { λ r. ⌜ r ≡ plain x ⌝ }
+fn is_ordinary(x: u8) -> bool
+    ensures { λ r. ⌜ r ≡ ordinary x ⌝ }
 {
     if x < 0x24 {
         return false;
@@ -61,7 +61,7 @@ fn due_past(due: Due, x: u8) -> Due
     ensures { λ r. ⌜ dueRanges r ≡ duePast (dueRanges due) x ⌝ }
 {
     if due.more == 0 {
-        if is_plain(x) {
+        if is_ordinary(x) {
             return due;
         }
         return due_after(x);
@@ -75,13 +75,13 @@ fn due_past(due: Due, x: u8) -> Due
     due_octets(0x80, 0xBF, due.more - 1)
 }
 
-// How many plain octets stand in front.
-fn plain_front(s: &[u8]) -> usize
-    ensures { λ r. ⌜ r ≡ length (upTo special (now (s .entry))) ⌝ }
+// How many ordinary octets stand in front.
+fn ordinary_front(s: &[u8]) -> usize
+    ensures { λ r. ⌜ r ≡ length (upTo unusual (now (s .entry))) ⌝ }
 {
     let mut i = 0;
     while i < s.len() {
-        if !is_plain(s[i]) {
+        if !is_ordinary(s[i]) {
             return i;
         }
         i += 1;
@@ -94,7 +94,7 @@ pub fn well_formed(s: &[u8]) -> bool
     ensures { λ r. ⌜ r ≡ wellFormed [] (now (s .entry)) ⌝ }
 {
     let mut due = due_octets(0, 0, 0);
-    let mut i = plain_front(s);
+    let mut i = ordinary_front(s);
     while i < s.len() {
         due = due_past(due, s[i]);
         i += 1;

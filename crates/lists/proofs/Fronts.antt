@@ -1,32 +1,22 @@
 -- Laws on a list's front: all but its last element, stores from a place on, and the part before a test passes. Assumes nothing.
-use Prim.Native.Nat.{ℕ, suc, _+_, _-_, _≤_, _<_}
+use Prim.Native.Nat.{ℕ, suc, _+_, _-_, _≤_}
 use mathlib.Core.Path.{_≡_, refl, ap, _∙_}
-use mathlib.Core.Bool.{Bool, true, false, not, _||_}
+use mathlib.Core.Bool.{Bool, true, not}
 use mathlib.Core.List.{List, [], _∷_, _++_, dropLast}
 use native.Mathlib.Omega.{arith}
 use native.Mathlib.Numerals.{unary-clauses}
-use lib.ListN.{length, take, drop, getD, drop-of-length-le}
+use lib.ListN.{length, take, drop}
 use lib.Seq.{sets, sets-eq}
 use borrow.Author.Tests.{not-true}
-use Rattle.lists.specs.Lists.{all, any, upTo}
+use Rattle.lists.specs.Lists.{all, upTo}
 use Rattle.lists.proofs.Bools.{and-left, and-right}
 use Rattle.lists.proofs.Parts.{upTo-on}
-use Rattle.lists.proofs.Scans.{drop-one}
 
 module _ {A : Type 0} where
   pub dropLast-take : (l : List A) → dropLast l ≡ take (length l - 1) l
   dropLast-take [] = refl
   dropLast-take (x ∷ []) = refl
   dropLast-take (x ∷ y ∷ l) = simp unary-clauses (ap (λ (m : List A). x ∷ m) (simp unary-clauses at (dropLast-take (y ∷ l))))
-
-  -- a test of what is left
-  pub any-end : (f : A → Bool) (l : List A) (i : ℕ) → length l ≤ i → any f (drop i l) ≡ false
-  unfolding any
-  any-end f l i h = rw (drop-of-length-le l h)
-
-  pub any-at : (f : A → Bool) (l : List A) (i : ℕ) (d : A) → i < length l → any f (drop i l) ≡ (f (getD l i d) || any f (drop (i + 1) l))
-  unfolding any
-  any-at f l i d h = rw (drop-one l i d h)
 
   -- stores of two lists, one behind the other
   pub sets-append : (a b l : List A) (i : ℕ) → sets l i (a ++ b) ≡ sets (sets l i a) (i + length a) b

@@ -7,7 +7,7 @@ use native.Mathlib.Omega.{arith}
 use lib.Dec.{eqb}
 use lib.ListN.{length, drop, getD, drop-of-length-le}
 use borrow.Author.Tests.{eq-eqb, ne-eqb}
-use Rattle.lists.specs.Lists.{empty, all, same}
+use Rattle.lists.specs.Lists.{empty, all, any, same}
 use Rattle.lists.proofs.Scans.{drop-one}
 
 module _ {A : Type 0} where
@@ -32,6 +32,19 @@ module _ {A : Type 0} (f : A → Bool) (l : List A) (i : ℕ) where
     pub all-on : f (getD l i d) ≡ true → all f (drop i l) ≡ all f (drop (i + 1) l)
     unfolding all
     all-on e = rw (drop-one l i d h, e)
+
+  pub any-end : length l ≤ i → any f (drop i l) ≡ false
+  unfolding any
+  any-end h = rw (drop-of-length-le l h)
+
+  module _ (d : A) (h : i < length l) where
+    pub any-here : f (getD l i d) ≡ true → any f (drop i l) ≡ true
+    unfolding any
+    any-here e = rw (drop-one l i d h, e)
+
+    pub any-on : f (getD l i d) ≡ false → any f (drop i l) ≡ any f (drop (i + 1) l)
+    unfolding any
+    any-on e = rw (drop-one l i d h, e)
 
 -- lists of two lengths are not the same
 pub same-length : (l m : List ℕ) → (length l ≡ length m → ⊥) → same l m ≡ false

@@ -3,17 +3,16 @@
 use Prim.Native.Nat.{ℕ, _/_, _%_}
 use Prim.Native.Char.{code}
 use mathlib.Core.Path.{_≡_, refl, sym, ap, _∙_}
-use mathlib.Core.Bool.{true, false, _||_, not, false≢true}
+use mathlib.Core.Bool.{true, false, not, false≢true}
 use mathlib.Core.List.{List, [], _∷_, _++_, map}
-use lib.Dec.{leb}
 use lib.ListN.{drop}
 use borrow.Author.Tests.{eqb-true, eqb-false, not-true}
 use Rattle.lists.specs.Lists.{all, upTo}
 use Rattle.lists.proofs.Bools.{split, and-left, and-right}
 use Rattle.lists.proofs.Parts.{upTo-stop, upTo-on}
 use Rattle.lists.proofs.Fronts.{upTo-clear}
-use Rattle.protocol.specs.Octets.{is, hex, unreserved}
-use Rattle.protocol.specs.Normal.{encoded, meant, escape, isEscape, escapeAt, special, plain, piece, normal}
+use Rattle.protocol.specs.Octets.{hex, unreserved}
+use Rattle.protocol.specs.Normal.{encoded, meant, escape, isEscape, escapeAt, special, isEncoded, plain, piece, normal}
 use Rattle.protocol.specs.Pattern.{isStar, firstRun, laterRuns}
 use Rattle.normal.specs.Pieces.{taken}
 use Rattle.normal.proofs.Sorts.{unreserved-not-star, hex-not-star, upper-not-star, digit-not-star}
@@ -34,7 +33,7 @@ escape-clear d e h k =
 plain-clear : (c : ℕ) → isStar c ≡ false → Clear (plain true c)
 unfolding plain encoded all
 plain-clear c h =
-    split (is "%" c || leb 0x7F c || special true c) (λ e. rw (e, digit-not-star (c / 16), digit-not-star (c % 16))) (λ e. rw (e, h))
+    split (isEncoded true c) (λ e. rw (e, digit-not-star (c / 16), digit-not-star (c % 16))) (λ e. rw (e, h))
 
 piece-clear : (c : ℕ) (l : List ℕ) → isStar c ≡ false → Clear (piece true c l)
 unfolding piece isEscape escapeAt all

@@ -2,16 +2,16 @@
 use Prim.Native.Nat.{ℕ, _+_, _<_}
 use Prim.Native.Char.{code}
 use mathlib.Core.Path.{_≡_, refl, sym, ap, _∙_}
-use mathlib.Core.Bool.{Bool, true, false, _||_, _&&_, true≢false}
+use mathlib.Core.Bool.{Bool, true, false, _&&_, true≢false}
 use mathlib.Core.List.{List, [], _∷_}
 use native.Mathlib.Omega.{arith}
-use lib.Dec.{leb, ltb}
+use lib.Dec.{ltb}
 use lib.ListN.{length, drop, getD, length-drop}
 use borrow.Author.Tests.{ne-eqb, ltb-true, ltb-false, not-true, not-false}
 use Rattle.lists.proofs.Bools.{split, and-left, and-right}
 use Rattle.lists.proofs.Scans.{drop-one}
 use Rattle.protocol.specs.Octets.{is, unreserved, hex, upperCase}
-use Rattle.protocol.specs.Normal.{encoded, meant, escape, isEscape, escapeAt, special, plain, piece}
+use Rattle.protocol.specs.Normal.{encoded, meant, escape, isEscape, escapeAt, isEncoded, plain, piece}
 use Rattle.normal.specs.declared.Piece.{Piece}
 use Rattle.normal.specs.declared.Measure.{Measure}
 use Rattle.normal.specs.Pieces.{kept, octetsOf, Encoded, Escaped, ChangedAt, PieceAt, MeasureAt}
@@ -47,12 +47,12 @@ module _ (stars : Bool) (x : ℕ) (l : List ℕ) where
   pub piece-kept : kept stars x ≡ true → PieceAt stars x l (alone x)
   unfolding piece plain
   piece-kept h =
-      rw (no-percent x l (λ e. true≢false (sym h ∙ percent-not-kept stars x e)), not-true (is "%" x || leb 0x7F x || special stars x) h)
+      rw (no-percent x l (λ e. true≢false (sym h ∙ percent-not-kept stars x e)), not-true (isEncoded stars x) h)
       (record { octets = refl; taken = refl })
 
   pub piece-changed : (p : Piece) → kept stars x ≡ false → ChangedAt x l p → PieceAt stars x l p
   unfolding piece plain
-  piece-changed p h s = rw (not-false (is "%" x || leb 0x7F x || special stars x) h) s
+  piece-changed p h s = rw (not-false (isEncoded stars x) h) s
 
 -- the octet at the place `at`, where two octets are behind it
 module _ (s : List ℕ) (at : ℕ) (h : at + 2 < length s) where
@@ -109,7 +109,7 @@ module _ (stars : Bool) (x : ℕ) (l : List ℕ) where
   pub measure-alone : kept stars x ≡ false → isEscape x l ≡ false → MeasureAt stars x l (record { size = 3; taken = 1 })
   unfolding piece plain encoded
   measure-alone h e =
-      rw (e, not-false (is "%" x || leb 0x7F x || special stars x) h) (record { size = refl; taken = refl })
+      rw (e, not-false (isEncoded stars x) h) (record { size = refl; taken = refl })
 
 pub measure-escape : (stars : Bool) (s : List ℕ) (at n : ℕ) → isEscape (getD s at 0) (drop (at + 1) s) ≡ true
     → n ≡ length (escape (getD s (at + 1) 0) (getD s (at + 2) 0)) → MeasureAt stars (getD s at 0) (drop (at + 1) s) (record { size = n; taken = 3 })

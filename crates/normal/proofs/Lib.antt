@@ -1,6 +1,5 @@
 pub mod Cuts
 mod Forms
-mod Rooms
 mod Sorts
 mod Steps
 pub mod Marks

@@ -2,22 +2,21 @@
 use Prim.Native.Nat.{ℕ, _+_, _-_, _<_}
 use Prim.Native.Char.{Char}
 use mathlib.Core.Path.{_≡_, refl, sym, _∙_}
-use mathlib.Core.Bool.{true, false, false≢true}
+use mathlib.Core.Bool.{true, false}
 use mathlib.Core.List.{List, [], _∷_}
 use native.Mathlib.Omega.{arith}
 use native.Mathlib.Numerals.{unary-clauses}
 use lib.Dec.{ltb}
-use lib.ListN.{length, take, getD, length-take}
+use lib.ListN.{length, take, getD}
 use lib.Seq.{take-length}
 use borrow.Author.Tests.{lt-ltb, le-ltb}
-use Rattle.lists.specs.Choice.{if_then_else_}
 use Rattle.lists.proofs.Bools.{split}
 use Rattle.lists.proofs.Fronts.{dropLast-take}
 use Rattle.protocol.specs.Octets.{is}
 use Rattle.protocol.specs.Text.{ends}
 use Rattle.protocol.specs.Normal.{normal}
-use Rattle.protocol.specs.Pattern.{shapeOf, weight}
-use Rattle.normal.specs.Runs.{rawText}
+use Rattle.protocol.specs.Pattern.{rawText, shapeOf, weight}
+use Rattle.protocol.proofs.Sizes.{mark-length}
 
 -- the last octet, by its index
 pub ends-last : (c : Char) (l : List ℕ) → 0 < length l → ends c l ≡ is c (getD l (length l - 1) 0)
@@ -26,19 +25,12 @@ ends-last c [] h = absurd (omega arith)
 ends-last c (x ∷ []) h = refl
 ends-last c (x ∷ y ∷ l) h = simp unary-clauses (simp unary-clauses at (ends-last c (y ∷ l) (omega arith)))
 
-ends-some : (c : Char) (l : List ℕ) → ends c l ≡ true → 0 < length l
-unfolding ends
-ends-some c [] h = absurd (false≢true h)
-ends-some c (x ∷ l) h = omega arith
-
 module _ (raw : List ℕ) where
   pub text-marked : ends "$" raw ≡ true → length (rawText raw) ≡ length raw - 1
-  unfolding rawText
-  text-marked h = rw (h, dropLast-take raw) (omega (arith, length-take (length raw - 1) raw))
+  text-marked h = omega (arith, rw h at (mark-length raw))
 
   pub text-unmarked : ends "$" raw ≡ false → length (rawText raw) ≡ length raw
-  unfolding rawText
-  text-unmarked h = rw h
+  text-unmarked h = omega (arith, rw h at (mark-length raw))
 
   -- it is the raw pattern's front
   pub text-front : take (length (rawText raw)) raw ≡ rawText raw
@@ -48,23 +40,12 @@ module _ (raw : List ℕ) where
       (λ h. rw (text-marked h) (rw (h, dropLast-take raw)))
       (λ h. rw (text-unmarked h) (rw h (take-length raw)))
 
-  -- and one octet less than that, where there is an end mark
-  pub mark-length : length (rawText raw) + (if ends "$" raw then 1 else 0) ≡ length raw
-  mark-length =
-      split (ends "$" raw) (λ h. rw h (omega (arith, text-marked h, ends-some "$" raw h))) (λ h. rw h (omega (arith, text-unmarked h)))
-
   pub mark-test : ends "$" raw ≡ ltb (length (rawText raw)) (length raw)
   mark-test =
       split (ends "$" raw)
-      (λ h. h ∙ sym (lt-ltb (length (rawText raw)) (length raw) (omega (arith, text-marked h, ends-some "$" raw h))))
+      (λ h. h ∙ sym (lt-ltb (length (rawText raw)) (length raw) (omega (arith, rw h at (mark-length raw)))))
       (λ h. h ∙ sym (le-ltb (length (rawText raw)) (length raw) (omega (arith, text-unmarked h))))
 
-  pub shape-text : shapeOf raw .text ≡ normal true 0 (rawText raw)
-  unfolding shapeOf rawText
-  shape-text = refl
-
   pub weight-parts : weight (shapeOf raw) ≡ length (normal true 0 (rawText raw)) + (length raw - length (rawText raw))
-  unfolding weight shapeOf rawText
-  weight-parts =
-      let e : length raw - length (rawText raw) ≡ (if ends "$" raw then 1 else 0) = omega (arith, mark-length) in
-      rw e
+  unfolding weight shapeOf
+  weight-parts = omega (arith, mark-length raw)

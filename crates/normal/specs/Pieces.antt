@@ -1,20 +1,19 @@
 -- What a piece is to be: the octets that it holds, and the octets of the raw text that it takes. Assumes nothing.
-use Prim.Native.Nat.{ℕ, _-_}
+use Prim.Native.Nat.{ℕ}
 use mathlib.Core.Path.{_≡_}
-use mathlib.Core.Bool.{Bool, _||_, not}
+use mathlib.Core.Bool.{Bool, not}
 use mathlib.Core.List.{List, [], _∷_}
 use lib.Dec.{leb}
 use lib.ListN.{length}
 use Rattle.lists.specs.Choice.{if_then_else_}
-use Rattle.protocol.specs.Octets.{is}
-use Rattle.protocol.specs.Normal.{encoded, escape, isEscape, escapeAt, special, piece}
+use Rattle.protocol.specs.Normal.{encoded, escape, isEscape, escapeAt, isEncoded, piece}
 use Rattle.normal.specs.declared.Piece.{Piece}
 use Rattle.normal.specs.declared.Measure.{Measure}
-use Rattle.normal.specs.declared.Room.{Room}
+use Rattle.normal.specs.declared.Size.{Size}
 
 -- "anything else as it is"
 abbrev pub kept : Bool → ℕ → Bool
-kept stars x = not (is "%" x || leb 0x7F x || special stars x)
+kept stars x = not (isEncoded stars x)
 
 -- the octets of a piece
 abbrev pub octetsOf : Piece → List ℕ
@@ -54,6 +53,6 @@ pub record Counts (n k : ℕ) (m : Measure) : Type 0 where
 abbrev pub MeasureAt : Bool → ℕ → List ℕ → Measure → Type 0
 MeasureAt stars c l m = Counts (length (piece stars c l)) (taken c l) m
 
--- what n octets leave of the room, if they fit
-abbrev pub roomLeft : ℕ → ℕ → Room
-roomLeft n room = if leb n room then Room.Left (room - n) else Room.Short
+-- n octets, if they fit the room
+unfoldable pub sizeWithin : ℕ → ℕ → Size
+sizeWithin room n = record { fits = leb n room; octets = if leb n room then n else 0 }

@@ -1,23 +1,15 @@
--- A pattern's raw text, and what becomes of one run of it. Assumes nothing.
+-- What becomes of one run of a pattern, raw. Assumes nothing.
 use Prim.Native.Nat.{ℕ}
 use mathlib.Core.Bool.{true}
-use mathlib.Core.List.{List, _++_, dropLast}
-use lib.ListN.{length, drop}
+use mathlib.Core.List.{List}
+use lib.ListN.{length}
 use lib.Dec.{leb}
 use Rattle.lists.specs.Choice.{if_then_else_}
-use Rattle.protocol.specs.Text.{ends}
 use Rattle.protocol.specs.Normal.{normal}
+use Rattle.protocol.specs.Answers.{atFront}
 use Rattle.normal.specs.declared.Written.{Written}
 
--- a raw pattern without its end mark
-unfoldable pub rawText : List ℕ → List ℕ
-rawText raw = if ends "$" raw then dropLast raw else raw
-
--- "fills the front of the lent memory; the rest stays"
-abbrev pub atFront : List ℕ → List ℕ → List ℕ
-atFront l memory = l ++ drop (length l) memory
-
--- a run's normalised octets
+-- one run's normalised octets
 abbrev pub normalRun : List ℕ → List ℕ
 normalRun run = normal true 0 run
 

@@ -9,11 +9,11 @@ ghost use lib.Seq.{sets};
 ghost use Rattle.lists.specs.Lists.{any};
 ghost use Rattle.protocol.specs.Octets.{hex};
 ghost use Rattle.protocol.specs.Normal.{meant, escape, isEscape, normal};
-ghost use Rattle.protocol.specs.Pattern.{shapeOf, weight};
+ghost use Rattle.protocol.specs.Pattern.{rawText, shapeOf, weight};
 ghost use Rattle.protocol.specs.Refusals.{outsidePath, pathRows, refusal, normaliseRefusal};
-ghost use Rattle.protocol.specs.Answers.{normaliseOf, normaliseBuffer};
-ghost use Rattle.normal.specs.Pieces.{kept, octetsOf, roomLeft, Encoded, Escaped, ChangedAt, MeasureAt};
-ghost use Rattle.normal.specs.Runs.{rawText, atFront, runOf, runScratch};
+ghost use Rattle.protocol.specs.Answers.{atFront, normaliseOf, normaliseBuffer};
+ghost use Rattle.normal.specs.Pieces.{kept, octetsOf, sizeWithin, Encoded, Escaped, ChangedAt, MeasureAt};
+ghost use Rattle.normal.specs.Runs.{runOf, runScratch};
 use protocol::Normalised;
 
 // What stands for one octet of a text, or for one escape: `first` alone or all three, and how many octets of the text it takes.
@@ -31,10 +31,10 @@ struct Measure {
     taken: usize,
 }
 
-// Room for octets: so much is left behind them, or it is too short.
-enum Room {
-    Left(usize),
-    Short,
+// How many octets there are, where they fit a room.
+struct Size {
+    fits: bool,
+    octets: usize,
 }
 
 // What a run of a pattern came to: so many octets in the scratch, or none, since they don't fit.
@@ -199,21 +199,24 @@ fn measure_at(stars: bool, s: &[u8], at: usize) -> Measure
     Measure { size: 3, taken: 1 }
 }
 
-// What is left of the room behind the normalised octets.
-fn room_left(stars: bool, s: &[u8], room: usize) -> Room
-    ensures { λ r. ⌜ r ≡ roomLeft (length (normal stars 0 (now (s .entry)))) room ⌝ }
+// The normalised octets, counted as far as they fit.
+fn size_within(stars: bool, s: &[u8], room: usize) -> Size
+    ensures { λ r. ⌜ r ≡ sizeWithin room (length (normal stars 0 (now (s .entry)))) ⌝ }
 {
-    let mut left = room;
+    let mut octets = 0;
     let mut i = 0;
     while i < s.len() {
         let m = measure_at(stars, s, i);
-        if left < m.size {
-            return Room::Short;
+        if room - octets < m.size {
+            return Size {
+                fits: false,
+                octets: 0,
+            };
         }
-        left -= m.size;
+        octets += m.size;
         i += m.taken;
     }
-    Room::Left(left)
+    Size { fits: true, octets }
 }
 
 // There is room for the normalised octets. Where there is room for three times the raw ones, nothing is measured.
@@ -223,12 +226,8 @@ pub fn fits(stars: bool, s: &[u8], room: usize) -> bool
     if s.len() <= room / 3 {
         return true;
     }
-    let left = room_left(stars, s, room);
-    if let Room::Left(_) = left {
-        true
-    } else {
-        false
-    }
+    let size = size_within(stars, s, room);
+    size.fits
 }
 
 // Some octet can't stand in a path.
@@ -327,10 +326,6 @@ pub fn weight_of(pattern: &[u8]) -> usize
 {
     let end = text_length(pattern);
     let marks = pattern.len() - end;
-    let room = 0xFFFF_FFFF_FFFF_FFFF;
-    let left = room_left(true, &pattern[..end], room);
-    let Room::Left(n) = left else {
-        return 0;
-    };
-    room - n + marks
+    let size = size_within(true, &pattern[..end], 0xFFFF_FFFF_FFFF_FFFF);
+    size.octets + marks
 }

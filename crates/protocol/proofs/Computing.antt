@@ -8,7 +8,7 @@ use Rattle.protocol.specs.Kinds.{agentAt, patternAt, fieldKind, recordKi
 use Rattle.protocol.specs.Entries.{roleOf, groupAt, ruledAfter, placeInFile, entryOf, entriesFrom, entries}
 use Rattle.protocol.specs.Rules.{namedBy, someGroupNames, groupNames, ruleIn, rulesIn, addressee, applying, unreadable, unread}
 use Rattle.protocol.specs.Normal.{encoded, meant, escape, isEscape, escapeAt, special, plain, piece, normal, normalPath}
-use Rattle.protocol.specs.Pattern.{shapeOf, weight, firstRun, laterRuns}
+use Rattle.protocol.specs.Pattern.{rawText, shapeOf, weight, firstRun, laterRuns}
 use Rattle.protocol.specs.Walk.{tried, tryAt, seek, final, first, next, later, walkRuns, walk}
 use Rattle.protocol.specs.Refusals.{outsidePath, refusal, decideRefusal, matchRefusal, normaliseRefusal, lineRefusal}
 use Rattle.protocol.specs.Decision.{readableRules, weightOf, walkOf, comparedBy, matching, outdoes, chosen, deciding, decidedBy, isRobotsFile, decidedAmong, answered}
@@ -28,7 +28,7 @@ unfolding roleOf groupAt ruledAfter placeInFile entryOf entriesFrom entries name
 groups = tt
 
 unfoldable pub patterns : Unit {0}
-unfolding encoded meant escape isEscape escapeAt special plain piece normal normalPath shapeOf weight firstRun laterRuns tried tryAt seek final first next later walkRuns walk
+unfolding encoded meant escape isEscape escapeAt special plain piece normal normalPath rawText shapeOf weight firstRun laterRuns tried tryAt seek final first next later walkRuns walk
 patterns = tt
 
 unfoldable pub answers : Unit {0}

@@ -2,18 +2,17 @@
 use Prim.Native.Nat.{ℕ, zero, suc, _+_, _*_, _≤_}
 use Prim.Native.Char.{code}
 use mathlib.Core.Path.{_≡_, refl}
-use mathlib.Core.Bool.{Bool, true, false, _||_, false≢true}
+use mathlib.Core.Bool.{Bool, true, false, false≢true}
 use mathlib.Core.List.{List, [], _∷_, dropLast}
 use native.Mathlib.Omega.{arith}
-use lib.Dec.{leb}
 use lib.ListN.{length, length-append}
 use borrow.Author.Tests.{eqb-true}
 use Rattle.lists.specs.Choice.{if_then_else_}
 use Rattle.lists.proofs.Bools.{split}
-use Rattle.protocol.specs.Octets.{is, unreserved}
+use Rattle.protocol.specs.Octets.{unreserved}
 use Rattle.protocol.specs.Text.{begins, ends}
-use Rattle.protocol.specs.Normal.{encoded, meant, escape, isEscape, escapeAt, special, plain, piece, normal, normalPath}
-use Rattle.protocol.specs.Pattern.{shapeOf, weight}
+use Rattle.protocol.specs.Normal.{encoded, meant, escape, isEscape, escapeAt, special, isEncoded, plain, piece, normal, normalPath}
+use Rattle.protocol.specs.Pattern.{rawText, shapeOf, weight}
 
 escape-size : (l : List ℕ) → length (escapeAt l) ≤ 3
 unfolding escapeAt escape
@@ -24,7 +23,7 @@ escape-size (d ∷ e ∷ l) = split (unreserved (meant d e)) (λ h. rw h (omega 
 plain-size : (stars : Bool) (c : ℕ) → length (plain stars c) ≤ 3
 unfolding plain encoded
 plain-size stars c =
-    split (is "%" c || leb 0x7F c || special stars c) (λ h. rw h (omega arith)) (λ h. rw h (omega arith))
+    split (isEncoded stars c) (λ h. rw h (omega arith)) (λ h. rw h (omega arith))
 
 piece-size : (stars : Bool) (c : ℕ) (l : List ℕ) → length (piece stars c l) ≤ 3
 unfolding piece
@@ -61,9 +60,12 @@ last-gone [] h = absurd (false≢true h)
 last-gone (c ∷ []) h = omega arith
 last-gone (c ∷ d ∷ l) h = omega (arith, last-gone (d ∷ l) h)
 
+-- an end mark is one octet
+pub mark-length : (raw : List ℕ) → length (rawText raw) + (if ends "$" raw then 1 else 0) ≡ length raw
+unfolding rawText
+mark-length raw = split (ends "$" raw) (λ h. rw h (last-gone raw h)) (λ h. rw h (omega arith))
+
 -- A pattern weighs at most three times its raw octets.
 pub weight-size : (raw : List ℕ) → weight (shapeOf raw) ≤ 3 * length raw
 unfolding weight shapeOf
-weight-size raw =
-    split (ends "$" raw) (λ h. rw h (omega (arith, normal-size true 0 (dropLast raw), last-gone raw h)))
-    (λ h. rw h (omega (arith, normal-size true 0 raw)))
+weight-size raw = omega (arith, normal-size true 0 (rawText raw), mark-length raw)

@@ -70,9 +70,12 @@ unfoldable pub normaliseOf : List ℕ → List ℕ → Normalised
 normaliseOf path buffer =
     record { refusal = normaliseRefusal (length buffer) path; written = length (normalWritten path buffer) }
 
--- "the rest of the buffer stays"
+-- "Whatever a call writes [..] fills the front of the lent memory; the rest stays"
+abbrev pub atFront : List ℕ → List ℕ → List ℕ
+atFront out memory = out ++ drop (length out) memory
+
 unfoldable pub normaliseBuffer : List ℕ → List ℕ → List ℕ
-normaliseBuffer path buffer = normalWritten path buffer ++ drop (length (normalWritten path buffer)) buffer
+normaliseBuffer path buffer = atFront (normalWritten path buffer) buffer
 
 -- "Tell the kind of one line": "a refused line has no kind, place 0 and length 0"
 unfoldable pub lineAnswerBy : ℕ → Kind → LineAnswer

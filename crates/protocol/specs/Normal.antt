@@ -34,9 +34,13 @@ escapeAt (d ∷ e ∷ l) = escape d e
 unfoldable pub special : Bool → ℕ → Bool
 special stars x = is "$" x || (is "*" x && not stars)
 
--- "any other "%": %25; an octet of 0x7F or more: "%" and two upper-case hex digits"; "anything else as it is"
+-- "any other "%": %25; an octet of 0x7F or more: "%" and two upper-case hex digits"
+abbrev pub isEncoded : Bool → ℕ → Bool
+isEncoded stars x = is "%" x || leb 0x7F x || special stars x
+
+-- "anything else as it is"
 unfoldable pub plain : Bool → ℕ → List ℕ
-plain stars x = if is "%" x || leb 0x7F x || special stars x then encoded x else x ∷ []
+plain stars x = if isEncoded stars x then encoded x else x ∷ []
 
 -- what stands for the octet c, with l behind it, and for the digits of its escape
 unfoldable pub piece : Bool → ℕ → List ℕ → List ℕ

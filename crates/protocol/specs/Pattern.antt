@@ -14,9 +14,13 @@ pub record Shape : Type 0 where
   pub text : List ℕ
   pub endMark : Bool
 
--- "a "$" as its last raw octet is the end mark, and the part before it is normalised by itself"
+-- "a "$" as its last raw octet is the end mark": the raw pattern without it
+unfoldable pub rawText : List ℕ → List ℕ
+rawText raw = if ends "$" raw then dropLast raw else raw
+
+-- "and the part before it is normalised by itself"
 unfoldable pub shapeOf : List ℕ → Shape
-shapeOf raw = record { text = normal true 0 (if ends "$" raw then dropLast raw else raw); endMark = ends "$" raw }
+shapeOf raw = record { text = normal true 0 (rawText raw); endMark = ends "$" raw }
 
 -- The weight, document 01's own term: "A pattern's weight is its normalised octets, with one for each star and one for the end mark"
 unfoldable pub weight : Shape → ℕ

@@ -27,6 +27,13 @@ pub fn shown(octets: &[u8]) -> String {
     )
 }
 
+/// Asks about these two parts with each octet between them.
+pub fn each_between(before: &[u8], after: &[u8], check: impl Fn(&[u8])) {
+    for octet in 0..=255 {
+        check(&[before, &[octet], after].concat());
+    }
+}
+
 /// What the library says of a line.
 pub fn line(line: &[u8]) -> LineKind {
     let given = exact(line);

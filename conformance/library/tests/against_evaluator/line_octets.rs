@@ -1,6 +1,6 @@
 //! Every octet in every part of a line.
 
-use crate::ask::check_line;
+use crate::ask::{check_line, each_between};
 
 const NAMES: [&[u8]; 3] = [b"user-agent", b"allow", b"disallow"];
 
@@ -12,16 +12,14 @@ const TAILS: [u8; 10] = [0x21, 0x7F, 0x80, 0x8F, 0x90, 0x9F, 0xA0, 0xBF, 0xC0, 0
 
 /// Checks the lines that have each octet between these two parts.
 fn check_between(before: &[u8], after: &[u8]) {
-    for octet in 0..=255 {
-        check_line(&[before, &[octet], after].concat());
-    }
+    each_between(before, after, |line| {
+        check_line(line);
+    });
 }
 
 /// Checks the lines that have each two octets between these two parts.
 fn check_two_between(before: &[u8], after: &[u8]) {
-    for octet in 0..=255 {
-        check_between(&[before, &[octet]].concat(), after);
-    }
+    each_between(before, b"", |front| check_between(front, after));
 }
 
 #[test]

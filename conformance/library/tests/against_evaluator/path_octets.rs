@@ -1,19 +1,15 @@
 //! Every octet in every part of a path.
 
-use crate::ask::check_path;
+use crate::ask::{check_path, each_between};
 
 /// Checks the paths that have each octet between these two parts.
 fn check_between(before: &[u8], after: &[u8]) {
-    for octet in 0..=255 {
-        check_path(&[before, &[octet], after].concat());
-    }
+    each_between(before, after, check_path);
 }
 
 /// Checks the paths that have each two octets between these two parts.
 fn check_two_between(before: &[u8], after: &[u8]) {
-    for octet in 0..=255 {
-        check_between(&[before, &[octet]].concat(), after);
-    }
+    each_between(before, b"", |front| check_between(front, after));
 }
 
 #[test]

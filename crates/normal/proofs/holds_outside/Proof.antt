@@ -4,7 +4,7 @@ use mathlib.Core.Path.{_≡_, refl, sym, _∙_}
 use native.Mathlib.Omega.{arith}
 use lib.ListN.{length, drop}
 use Rattle.lists.specs.Lists.{any}
-use Rattle.lists.proofs.Fronts.{any-end, any-at}
+use Rattle.lists.proofs.Tests.{any-end, any-here, any-on}
 use Rattle.protocol.specs.Refusals.{outsidePath}
 use Rattle.normal.proofs.holds_outside.Statement.{statement}
 use Rattle.normal.proofs.holds_outside.Tie as tie
@@ -28,7 +28,7 @@ returns : tie.Need-returns Inv-loop μ-loop
 returns c =
     let s = c .before .before .before .before in
     let e = sym (c .before .is-outside-path .ensures) ∙ c .if1 .taken in
-    sym (any-at outsidePath (s .before .before .args .path .now) (s .loop .i) 0 (omega arith) ∙ rw e) ∙ s .loop .inv .1
+    sym (any-here outsidePath (s .before .before .args .path .now) (s .loop .i) 0 (omega arith) e) ∙ s .loop .inv .1
 
 add-i : tie.Need-add-i Inv-loop μ-loop
 add-i c = omega arith
@@ -40,7 +40,7 @@ loop-again : tie.Need-loop-again Inv-loop μ-loop
 loop-again c =
     let s = c .before .before .before .before in
     let e = sym (c .before .is-outside-path .ensures) ∙ c .if1 .left in
-    (omega arith, sym (any-at outsidePath (s .before .before .args .path .now) (s .loop .i) 0 (omega arith) ∙ rw e) ∙ s .loop .inv .1)
+    (omega arith, sym (any-on outsidePath (s .before .before .args .path .now) (s .loop .i) 0 (omega arith) e) ∙ s .loop .inv .1)
 
 returns-2 : tie.Need-returns-2 Inv-loop μ-loop
 returns-2 c =

@@ -3,7 +3,8 @@ use mathlib.Core.Path.{sym, _∙_}
 use native.Mathlib.Omega.{arith}
 use borrow.Author.Tests.{eq-eqb, ne-eqb}
 use borrow.Author.Needs.{needs}
-use Rattle.normal.proofs.Marks.{ends-last, text-marked, text-unmarked, mark-length}
+use Rattle.protocol.proofs.Sizes.{mark-length}
+use Rattle.normal.proofs.Marks.{ends-last, text-marked, text-unmarked}
 use Rattle.normal.proofs.text_length.Statement.{statement}
 use Rattle.normal.proofs.text_length.Tie as tie
 

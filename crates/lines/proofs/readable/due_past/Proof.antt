@@ -3,17 +3,17 @@ use mathlib.Core.Path.{sym, ap, _∙_}
 use native.Mathlib.Omega.{arith}
 use borrow.Author.Needs.{needs}
 use Rattle.lines.specs.Due.{dueRanges}
-use Rattle.lines.proofs.Due.{past-none, past-plain, past-under, past-over, past-within}
+use Rattle.lines.proofs.Due.{past-none, past-ordinary, past-under, past-over, past-within}
 use Rattle.lines.proofs.readable.due_past.Statement.{statement}
 use Rattle.lines.proofs.readable.due_past.Tie as tie
 
-is-plain-requires : tie.Need-is-plain-requires
-is-plain-requires c κs = tt
+is-ordinary-requires : tie.Need-is-ordinary-requires
+is-ordinary-requires c κs = tt
 
 returns : tie.Need-returns
 returns c =
     let a = c .before .before .before .before .args in
-    past-plain (a .due .low) (a .due .high) (a .x) (a .due .more) (omega arith) (sym (c .before .is-plain .ensures) ∙ c .if2 .taken)
+    past-ordinary (a .due .low) (a .due .high) (a .x) (a .due .more) (omega arith) (sym (c .before .is-ordinary .ensures) ∙ c .if2 .taken)
 
 due-after-requires : tie.Need-due-after-requires
 due-after-requires c κs = tt
@@ -54,7 +54,7 @@ pub due-past-spec : {M : Type 1} → statement M
 due-past-spec =
     tie.close
     (tie.spec
-    is-plain-requires
+    is-ordinary-requires
     returns
     due-after-requires
     returns-2

@@ -20,12 +20,12 @@ abbrev μ-loop : tie.MeasureT-loop
 due-octets-requires : tie.Need-due-octets-requires Inv-loop μ-loop
 due-octets-requires c κs = tt
 
-plain-front-requires : tie.Need-plain-front-requires Inv-loop μ-loop
-plain-front-requires c κs = tt
+ordinary-front-requires : tie.Need-ordinary-front-requires Inv-loop μ-loop
+ordinary-front-requires c κs = tt
 
 loop-holds : tie.Need-loop-holds Inv-loop μ-loop
 loop-holds c =
-    rw (c .before .due-octets .ensures, c .plain-front .ensures) (well-formed-front (c .before .before .before .args .s .now))
+    rw (c .before .due-octets .ensures, c .ordinary-front .ensures) (well-formed-front (c .before .before .before .args .s .now))
 
 shared-slice-read-due-past : tie.Need-shared-slice-read-due-past Inv-loop μ-loop
 shared-slice-read-due-past c = omega arith
@@ -63,7 +63,7 @@ well-formed-spec =
     Inv-loop
     μ-loop
     due-octets-requires
-    plain-front-requires
+    ordinary-front-requires
     loop-holds
     shared-slice-read-due-past
     due-past-requires

@@ -41,7 +41,7 @@ returns-4 c =
     let s = c .before .before .before .before .before .before .before .before .before .before .args .s .now in
     let i = c .before .before .before .before .before in
     let e = i .before .is-line-end in
-    sym (two-ending s (omega arith) (sym (e .ensures) ∙ not-false (e .result) (i .if2 .left)) (sym (c .before .is-cr-lf .ensures) ∙ c .if4 .taken))
+    sym (two-ending s (omega arith) (sym (c .before .is-cr-lf .ensures) ∙ c .if4 .taken))
 
 returns-5 : tie.Need-returns-5
 returns-5 c =

@@ -1,19 +1,21 @@
--- `normal::room_left` meets its contract: the room less what is left of it is what the octets passed came to. Assumes nothing.
+-- `normal::size_within` meets its contract: the octets counted and those of what is left are the whole's. Assumes nothing.
 use Prim.Native.Nat.{_+_, _-_, _≤_}
-use mathlib.Core.Path.{_≡_}
+use mathlib.Core.Path.{_≡_, ap}
 use native.Mathlib.Omega.{arith}
 use lib.ListN.{length, drop}
-use borrow.Author.Tests.{le-leb, lt-leb}
+use borrow.Author.Tests.{lt-leb, le-leb}
 use Rattle.protocol.specs.Normal.{normal}
-use Rattle.normal.proofs.Steps.{Turn, normal-end, turn}
-use Rattle.normal.proofs.room_left.Statement.{statement}
-use Rattle.normal.proofs.room_left.Tie as tie
+use Rattle.normal.specs.Pieces.{sizeWithin}
+use Rattle.normal.proofs.Steps.{Turn, turn, normal-end}
+use Rattle.normal.proofs.size_within.Statement.{statement}
+use Rattle.normal.proofs.size_within.Tie as tie
 
 abbrev Inv-loop : tie.InvT-loop
-Inv-loop stars s room left₀ i₀ left i = (i ≤ length s) × (length (normal stars 0 (drop i s)) + room ≡ length (normal stars 0 s) + left)
+Inv-loop stars s room octets₀ i₀ octets i =
+    (i ≤ length s) × ((octets ≤ room) × (octets + length (normal stars 0 (drop i s)) ≡ length (normal stars 0 s)))
 
 abbrev μ-loop : tie.MeasureT-loop
-μ-loop stars s room left₀ i₀ left i = length s - i
+μ-loop stars s room octets₀ i₀ octets i = length s - i
 
 loop-holds : tie.Need-loop-holds Inv-loop μ-loop
 loop-holds c = omega arith
@@ -22,17 +24,25 @@ measure-at-requires : tie.Need-measure-at-requires Inv-loop μ-loop
 measure-at-requires c κs = omega arith
 
 -- the turn over what was measured
-passed : (c : tie.After-measure-at Inv-loop μ-loop) → let s = c .before .before in let a = s .before .before .args in Turn (a .stars) (a .s .now) (s .loop .i) (c .measure-at .result)
+passed : (c : tie.After-measure-at Inv-loop μ-loop)
+    → let s = c .before .before in let a = s .before .before .args in Turn (a .stars) (a .s .now) (s .loop .i) (c .measure-at .result)
 passed c =
     let s = c .before .before in
     let a = s .before .before .args in
     turn (a .stars) (a .s .now) (s .loop .i) (omega arith) (c .measure-at .result) (c .measure-at .ensures)
 
+sub-if1 : tie.Need-sub-if1 Inv-loop μ-loop
+sub-if1 c = omega arith
+
 returns : tie.Need-returns Inv-loop μ-loop
+unfolding sizeWithin
 returns c =
     let a = c .before .before .before .before .before .before .args in
     let t = passed (c .before .before) in
     rw (lt-leb (length (normal (a .stars) 0 (a .s .now))) (a .room) (omega arith))
+
+add-octets : tie.Need-add-octets Inv-loop μ-loop
+add-octets c = omega (arith, passed (c .before .before .before))
 
 add-i : tie.Need-add-i Inv-loop μ-loop
 add-i c = omega (arith, passed (c .before .before .before .before))
@@ -44,22 +54,25 @@ loop-again : tie.Need-loop-again Inv-loop μ-loop
 loop-again c = omega (arith, passed (c .before .before .before .before))
 
 returns-2 : tie.Need-returns-2 Inv-loop μ-loop
+unfolding sizeWithin
 returns-2 c =
     let s = c .before in
     let a = s .before .before .args in
-    let e : length (normal (a .stars) 0 (drop (s .loop .i) (a .s .now))) ≡ 0 = rw (normal-end (a .stars) (a .s .now) (s .loop .i) (omega arith)) in
-    let k : s .loop .left ≡ a .room - length (normal (a .stars) 0 (a .s .now)) = omega arith in
-    rw (le-leb (length (normal (a .stars) 0 (a .s .now))) (a .room) (omega arith), k)
+    let none = ap length (normal-end (a .stars) (a .s .now) (s .loop .i) (omega arith)) in
+    let all : s .loop .octets ≡ length (normal (a .stars) 0 (a .s .now)) = omega (arith, none) in
+    rw (← all, le-leb (s .loop .octets) (a .room) (omega arith))
 
-pub room-left-spec : {M : Type 1} → statement M
-room-left-spec =
+pub size-within-spec : {M : Type 1} → statement M
+size-within-spec =
     tie.close
     (tie.spec
     Inv-loop
     μ-loop
     loop-holds
     measure-at-requires
+    sub-if1
     returns
+    add-octets
     add-i
     loop-less
     loop-again
