@@ -1,7 +1,7 @@
 #!/bin/sh
 # Runs every test: the layout of the sources, rt ci (every crate proved from nothing, every must-fail edit refused, every program run), what
-# the refusals of the edits rest on, the header against the library, the tests in Rust, the library linked from C and from C++, and the README's
-# example. Stops at the first step that fails. The last line is rt ci's own, printed only if every step passed.
+# the refusals of the edits rest on, the header against the library, the tests in Rust, the library linked from C and from C++, the examples in C, and the
+# README's command. Stops at the first step that fails. The last line is rt ci's own, printed only if every step passed.
 set -u
 cd "$(dirname "$0")" || exit 2
 
@@ -61,6 +61,10 @@ if command -v g++ >/dev/null; then
 else
     echo "test.sh: g++ is not installed, so the header is not tried as C++"
 fi
+
+for example in examples/*.c; do
+    gcc -std=c99 -Wall -Wextra -Werror -pedantic -Iinclude "$example" "$archive" -o "target/link-test/$(basename "$example" .c)" || fail "gcc on $example: see its messages above"
+done
 
 # README.md, 'See it work': its command prints what stands there
 told() { sed -n '/^## See it work/,/^## /s/^    //p' README.md; }

@@ -26,11 +26,12 @@ extern "C" {
 /* Why a question is refused. The smallest number that holds is given. */
 enum robots_refusal {
     ROBOTS_ANSWERED = 0,      /* not refused */
-    ROBOTS_TOO_LONG = 1,      /* line longer than ROBOTS_LINE_MOST octets */
+    ROBOTS_TOO_LONG = 1,      /* line or pattern longer than 512,000 octets */
     ROBOTS_PATH_LENGTH = 3,   /* path empty, or over ROBOTS_PATH_MOST octets */
     ROBOTS_PATH_START = 4,    /* path doesn't begin with "/" */
     ROBOTS_PATH_OCTET = 5,    /* path holds an octet of 0x20 or less, or "#" */
     ROBOTS_NO_ROOM = 6,       /* normalised path longer than the buffer */
+    ROBOTS_PATTERN = 8,       /* pattern empty or unreadable */
     ROBOTS_SEVERAL_LINES = 9  /* line holds CR or LF */
 };
 
@@ -53,6 +54,7 @@ enum robots_kind {
 /* The longest inputs that are answered, and the longest outcome. */
 enum robots_limit {
     ROBOTS_LINE_MOST = 512000,    /* octets of a line */
+    ROBOTS_PATTERN_MOST = 512000, /* octets of a pattern */
     ROBOTS_PATH_MOST = 2048,      /* octets of a path */
     ROBOTS_NORMALISED_MOST = 6142 /* octets of a normalised path */
 };
@@ -116,6 +118,53 @@ size_t robots_line_place(const uint8_t *line, size_t line_length);
  * for every other kind of line.
  */
 size_t robots_line_length(const uint8_t *line, size_t line_length);
+
+/*
+ * One pattern against one path.
+ *
+ * The pattern is given raw, as it stands in a rule line: "*" is a star and
+ * stands for any number of octets, none included; "$" as the last octet is
+ * the end mark; "$" elsewhere and all other octets are themselves. It is
+ * readable if it begins with "/" and is UTF-8 that holds neither "#" nor an
+ * octet under 0x21. The path is given raw too, with its query if any. Both
+ * are normalised before they are compared. /robots.txt is a path like others
+ * here.
+ *
+ * A call needs about 12 KiB of stack, however long the pattern is. No memory
+ * is lent to it.
+ */
+
+/*
+ * Why a pattern and a path are refused.
+ *
+ * Answers ROBOTS_ANSWERED (0) if they aren't, else ROBOTS_TOO_LONG (1),
+ * ROBOTS_PATH_LENGTH (3), ROBOTS_PATH_START (4), ROBOTS_PATH_OCTET (5) or
+ * ROBOTS_PATTERN (8).
+ */
+size_t robots_match_refusal(const uint8_t *pattern, size_t pattern_length,
+                            const uint8_t *path, size_t path_length);
+
+/*
+ * Whether the pattern matches the path.
+ *
+ * Answers 1 if its stars can be filled so that it is a beginning of the path,
+ * or all of the path where there is an end mark; otherwise 0. Answers 0 if
+ * refused.
+ */
+size_t robots_match_found(const uint8_t *pattern, size_t pattern_length,
+                          const uint8_t *path, size_t path_length);
+
+/*
+ * The number of pairs of octets that were compared to find that out.
+ *
+ * It is that of the leftmost walk, which tries the octets between two stars
+ * from left to right and never moves them once they stand. It is at most the
+ * pattern's weight times the octets of the normalised path; the weight is the
+ * octets of the normalised pattern, with 1 for each star and 1 for the end
+ * mark. Answers 0 if refused; an answer of 0 by itself is no refusal.
+ */
+size_t robots_match_compared(const uint8_t *pattern, size_t pattern_length,
+                             const uint8_t *path, size_t path_length);
 
 #ifdef __cplusplus
 }

@@ -37,6 +37,14 @@ struct refused_row {
     size_t refusal;
 };
 
+struct match_row {
+    struct octets pattern;
+    struct octets path;
+    size_t refusal;
+    size_t found;
+    size_t compared;
+};
+
 static const struct line_row line_rows[] = {
     /* RFC 9309, figures 1 and 5, sections 2.2.4 and 5.1 */
     {{TEXT("user-agent: ExampleBot")}, ROBOTS_ANSWERED, ROBOTS_KIND_AGENT_READABLE, 12, 10},
@@ -124,6 +132,55 @@ static const struct refused_row refused_rows[] = {
     {{TEXT("/a b")}, ROBOTS_PATH_OCTET},
     {{TEXT("/#")}, ROBOTS_PATH_OCTET},
     {{TEXT("/\0")}, ROBOTS_PATH_OCTET},
+};
+
+static const struct match_row match_rows[] = {
+    /* document 01's table and program, each rule by itself */
+    {{TEXT("/")}, {TEXT("/x")}, ROBOTS_ANSWERED, 1, 1},
+    {{TEXT("/p")}, {TEXT("/page")}, ROBOTS_ANSWERED, 1, 2},
+    {{TEXT("/folder")}, {TEXT("/folder/page")}, ROBOTS_ANSWERED, 1, 7},
+    {{TEXT("/*.htm")}, {TEXT("/page.htm")}, ROBOTS_ANSWERED, 1, 9},
+    {{TEXT("/*.php$")}, {TEXT("/filename.php5")}, ROBOTS_ANSWERED, 0, 2},
+    {{TEXT("/path/foo-%24")}, {TEXT("/path/foo-$")}, ROBOTS_ANSWERED, 1, 13},
+    {{TEXT("/sailings/draft")}, {TEXT("/sailings/draft/9")}, ROBOTS_ANSWERED, 1, 15},
+    /* "/robots.txt has no special standing here." */
+    {{TEXT("/")}, {TEXT("/robots.txt")}, ROBOTS_ANSWERED, 1, 1},
+    /* "The first run is tried at 0 only." */
+    {{TEXT("/a")}, {TEXT("/b/a")}, ROBOTS_ANSWERED, 0, 2},
+    /* "Decoding %2F or %2A before comparing" only looks right */
+    {{TEXT("/a/b")}, {TEXT("/a%2Fb")}, ROBOTS_ANSWERED, 0, 3},
+    {{TEXT("/a%2fb")}, {TEXT("/a%2Fb")}, ROBOTS_ANSWERED, 1, 6},
+    /* "A try that would pass p fails the rule at no cost." */
+    {{TEXT("/ab")}, {TEXT("/a")}, ROBOTS_ANSWERED, 0, 0},
+    /* "A try [..] stops at the first difference" */
+    {{TEXT("/abc")}, {TEXT("/axc")}, ROBOTS_ANSWERED, 0, 3},
+    /* "an empty one costs nothing" */
+    {{TEXT("/**")}, {TEXT("/")}, ROBOTS_ANSWERED, 1, 1},
+    /* "It fails at no cost if that start is [..] for a run that is also the first, not 0." */
+    {{TEXT("/$")}, {TEXT("/")}, ROBOTS_ANSWERED, 1, 1},
+    {{TEXT("/$")}, {TEXT("/x")}, ROBOTS_ANSWERED, 0, 0},
+    /* "or under the end of the run before" */
+    {{TEXT("/a*a$")}, {TEXT("/a")}, ROBOTS_ANSWERED, 0, 2},
+    /* "another "$" becomes %24" */
+    {{TEXT("/a$b")}, {TEXT("/a$b")}, ROBOTS_ANSWERED, 1, 6},
+    /* "any other "%": %25" */
+    {{TEXT("/%4*1")}, {TEXT("/%41")}, ROBOTS_ANSWERED, 0, 0},
+    {{TEXT("/%4*1")}, {TEXT("/%4x1")}, ROBOTS_ANSWERED, 1, 7},
+    /* "it may stop inside a %XX" */
+    {{TEXT("/*2A")}, {TEXT("/*")}, ROBOTS_ANSWERED, 1, 4},
+    /* eleven stars: "/" 1, ten times "a" 1, "b" at the nine places left */
+    {{TEXT("/*a*a*a*a*a*a*a*a*a*a*b")}, {TEXT("/aaaaaaaaaaaaaaaaaaa")}, ROBOTS_ANSWERED, 0, 20},
+    /* the table of refusals, "the smallest number first" */
+    {{TEXT("/")}, {TEXT("")}, ROBOTS_PATH_LENGTH, 0, 0},
+    {{TEXT("")}, {TEXT("")}, ROBOTS_PATH_LENGTH, 0, 0},
+    {{TEXT("")}, {TEXT("a#")}, ROBOTS_PATH_START, 0, 0},
+    {{TEXT("/#")}, {TEXT("/#")}, ROBOTS_PATH_OCTET, 0, 0},
+    {{TEXT("/")}, {TEXT("/\0")}, ROBOTS_PATH_OCTET, 0, 0},
+    {{TEXT("")}, {TEXT("/")}, ROBOTS_PATTERN, 0, 0},
+    {{TEXT("*.gif$")}, {TEXT("/image.gif")}, ROBOTS_PATTERN, 0, 0},
+    {{TEXT("/#")}, {TEXT("/")}, ROBOTS_PATTERN, 0, 0},
+    {{TEXT("/\0")}, {TEXT("/")}, ROBOTS_PATTERN, 0, 0},
+    {{TEXT("/\xC3")}, {TEXT("/\xC3")}, ROBOTS_PATTERN, 0, 0},
 };
 
 static unsigned passed;
@@ -246,6 +303,20 @@ static void check_refused(struct refused_row row)
     check_normalise(row.path, 40, row.refusal, nothing);
 }
 
+static void check_match(struct match_row row)
+{
+    uint8_t *pattern = copy(row.pattern);
+    uint8_t *path = copy(row.path);
+    size_t length = row.pattern.length;
+    size_t path_length = row.path.length;
+
+    check("match refusal", row.pattern, robots_match_refusal(pattern, length, path, path_length), row.refusal);
+    check("match found", row.pattern, robots_match_found(pattern, length, path, path_length), row.found);
+    check("match compared", row.pattern, robots_match_compared(pattern, length, path, path_length), row.compared);
+    free(path);
+    free(pattern);
+}
+
 static void check_rows(void)
 {
     size_t row;
@@ -259,6 +330,20 @@ static void check_rows(void)
     for (row = 0; row < COUNT(refused_rows); row++) {
         check_refused(refused_rows[row]);
     }
+    for (row = 0; row < COUNT(match_rows); row++) {
+        check_match(match_rows[row]);
+    }
+}
+
+/* The header's limits are document 01's. */
+static void check_limits(void)
+{
+    struct octets nothing = {NULL, 0};
+
+    check("limit", nothing, ROBOTS_LINE_MOST, 512000);
+    check("limit", nothing, ROBOTS_PATTERN_MOST, 512000);
+    check("limit", nothing, ROBOTS_PATH_MOST, 2048);
+    check("limit", nothing, ROBOTS_NORMALISED_MOST, 6142);
 }
 
 /* "file, pattern or line longer than 512,000 octets" */
@@ -297,6 +382,33 @@ static void check_longest_path(void)
     free(text);
 }
 
+/* "file, pattern or line longer than 512,000 octets"; the path is 2,048 octets */
+static void check_longest_pattern(void)
+{
+    uint8_t *text = memory(ROBOTS_PATTERN_MOST + 1);
+    uint8_t *path = memory(ROBOTS_PATH_MOST + 1);
+    /* "/" 1, and each later run is empty */
+    struct match_row stars = {{text, 512000}, {path, 2048}, ROBOTS_ANSWERED, 1, 1};
+    /* the one run would pass the end of the path */
+    struct match_row run = {{text, 512000}, {path, 2048}, ROBOTS_ANSWERED, 0, 0};
+    struct match_row outside = {{text, 512001}, {path, 2049}, ROBOTS_TOO_LONG, 0, 0};
+    struct match_row long_path = {{text, 512000}, {path, 2049}, ROBOTS_PATH_LENGTH, 0, 0};
+
+    memset(path, 'a', ROBOTS_PATH_MOST + 1);
+    path[0] = '/';
+    memset(text, '*', ROBOTS_PATTERN_MOST + 1);
+    text[0] = '/';
+    check_match(stars);
+    check_match(outside);
+    check_match(long_path);
+    memset(text, '%', ROBOTS_PATTERN_MOST + 1);
+    text[0] = '/';
+    check_match(run);
+    check_match(outside);
+    free(path);
+    free(text);
+}
+
 /* NULL stands for no octets, in each place. */
 static void check_null(void)
 {
@@ -316,6 +428,23 @@ static void check_null(void)
     check("octets written", slash, robots_normalise(slash.start, 1, NULL, 0), 0);
 }
 
+/* The same for a pattern and a path. */
+static void check_null_match(void)
+{
+    struct octets nothing = {NULL, 0};
+    struct octets slash = {TEXT("/")};
+
+    check("match refusal", nothing, robots_match_refusal(NULL, 0, NULL, 0), ROBOTS_PATH_LENGTH);
+    check("match found", nothing, robots_match_found(NULL, 0, NULL, 0), 0);
+    check("match compared", nothing, robots_match_compared(NULL, 0, NULL, 0), 0);
+    check("match refusal", nothing, robots_match_refusal(NULL, 0, slash.start, 1), ROBOTS_PATTERN);
+    check("match found", nothing, robots_match_found(NULL, 0, slash.start, 1), 0);
+    check("match compared", nothing, robots_match_compared(NULL, 0, slash.start, 1), 0);
+    check("match refusal", slash, robots_match_refusal(slash.start, 1, NULL, 0), ROBOTS_PATH_LENGTH);
+    check("match found", slash, robots_match_found(slash.start, 1, NULL, 0), 0);
+    check("match compared", slash, robots_match_compared(slash.start, 1, NULL, 0), 0);
+}
+
 int main(int count, char **words)
 {
     if (count > 1) {
@@ -323,9 +452,12 @@ int main(int count, char **words)
         return 2;
     }
     check_rows();
+    check_limits();
     check_longest_line();
     check_longest_path();
+    check_longest_pattern();
     check_null();
+    check_null_match();
     if (failed > 0) {
         printf("link test: %u checks failed, %u passed\n", failed, passed);
         return 1;

@@ -32,7 +32,10 @@ const ESCAPED: [&str; 12] = [
     "$",
 ];
 
-/// Records, each ended by LF.
+const ENDS: [&str; 4] = ["html", "php", "pdf", "jpg"];
+
+/// Records, each ended by LF. A question about a pattern and a path takes two
+/// records, in this order.
 pub struct Input {
     pub name: &'static str,
     pub text: Vec<u8>,
@@ -117,6 +120,48 @@ pub fn escaped_paths() -> Input {
     })
 }
 
+/// Patterns without stars; some are a beginning of their path.
+pub fn fixed_patterns() -> Input {
+    input("fixed patterns", |numbers| {
+        let path = plain_path(numbers);
+        let pattern = match numbers.below(2) {
+            0 => path[..1 + numbers.below(path.len())].to_string(),
+            _ => folders(numbers),
+        };
+        format!("{pattern}\n{path}")
+    })
+}
+
+/// Patterns with stars and end marks; many are made from their path.
+pub fn star_patterns() -> Input {
+    input("star patterns", |numbers| {
+        let (folders, end) = (folders(numbers), numbers.pick(&ENDS));
+        let query = match numbers.below(4) {
+            0 => format!("?id={}", numbers.below(10_000)),
+            _ => String::new(),
+        };
+        let pattern = star_pattern(numbers, &folders, end);
+        format!("{pattern}\n{folders}.{end}{query}")
+    })
+}
+
+/// A pattern for a path of these folders and this end.
+fn star_pattern(numbers: &mut Numbers, folders: &str, end: &str) -> String {
+    let held: Vec<&str> = folders.split('/').skip(1).collect();
+    let (word, end) = match numbers.below(4) {
+        0 => (numbers.pick(&WORDS), numbers.pick(&ENDS)),
+        _ => (numbers.pick(&held), end),
+    };
+    match numbers.below(6) {
+        0 => format!("/*/{word}"),
+        1 => format!("/*{word}*.{end}$"),
+        2 => format!("/{}/*{word}", held[0]),
+        3 => format!("/*.{end}$"),
+        4 => format!("/*{word}*?id="),
+        _ => format!("/{word}*"),
+    }
+}
+
 fn rule(numbers: &mut Numbers) -> String {
     let side = numbers.pick(&["Allow", "Disallow", "Disallow", "disallow"]);
     format!("{side}: {}", pattern(numbers))
@@ -128,12 +173,17 @@ fn pattern(numbers: &mut Numbers) -> String {
     format!("{path}{end}")
 }
 
-fn plain_path(numbers: &mut Numbers) -> String {
+fn folders(numbers: &mut Numbers) -> String {
     let mut path = String::new();
     for _ in 0..1 + numbers.below(5) {
         path.push('/');
         path.push_str(numbers.pick(&WORDS));
     }
+    path
+}
+
+fn plain_path(numbers: &mut Numbers) -> String {
+    let mut path = folders(numbers);
     if numbers.below(4) == 0 {
         path.push_str(&format!("?id={}&lang=en", numbers.below(10_000)));
     }

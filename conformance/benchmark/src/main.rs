@@ -2,6 +2,7 @@
 //! plain pass over the same octets. `docs/BENCHMARKS.md` says what is
 //! measured.
 
+mod eleven;
 mod inputs;
 mod measure;
 mod passes;
@@ -41,13 +42,17 @@ fn main() {
     run(&inputs::rules_file(), &passes::KINDS);
     run(&inputs::plain_paths(), &passes::NORMALISING);
     run(&inputs::escaped_paths(), &passes::NORMALISING);
+    run(&inputs::fixed_patterns(), &passes::MATCHING);
+    run(&inputs::star_patterns(), &passes::MATCHING);
+    println!();
+    eleven::run();
 }
 
 fn run(input: &Input, passes: &Passes) {
     let records = input.records();
     passes::check(input, &records, passes);
     let medians = measure(input, &records, passes);
-    print_row(input, records.len(), &medians);
+    print_row(input, records.len() / passes.parts, &medians);
 }
 
 fn print_row(input: &Input, calls: usize, medians: &Medians) {

@@ -1,32 +1,7 @@
 //! Matching compared with fillings that are really tried out, one by one.
 
 use evaluator::match_pattern;
-
-/// All strings over the letters with at most `most` octets.
-fn strings(letters: &[u8], most: usize) -> Vec<Vec<u8>> {
-    let mut all = vec![Vec::new()];
-    let mut start = 0;
-    for _ in 0..most {
-        let end = all.len();
-        for at in start..end {
-            for letter in letters {
-                let mut longer: Vec<u8> = all[at].clone();
-                longer.push(*letter);
-                all.push(longer);
-            }
-        }
-        start = end;
-    }
-    all
-}
-
-/// "/" and each of the strings.
-fn after_slash(letters: &[u8], most: usize) -> Vec<Vec<u8>> {
-    strings(letters, most)
-        .into_iter()
-        .map(|tail| [b"/", tail.as_slice()].concat())
-        .collect()
-}
+use generator::{after_slash, strings};
 
 /// The normalised form of a pattern over "/", letters, "*" and "$": its parts
 /// between the stars, and whether there is an end mark.

@@ -16,7 +16,7 @@ const COUNTS: [(&str, usize); 8] = [
     ("run", 8),
     ("located", 5),
     ("lineRow", 43),
-    ("matchRow", 13),
+    ("matchRow", 15),
     ("normalRow", 12),
 ];
 

@@ -9,16 +9,21 @@
 //!   `i` depends on the seed and on `i` only; the same seed gives the same
 //!   cases everywhere.
 //!
-//! A case holds a question and no answer.
+//! A case holds a question and no answer. `strings` and `after_slash` give all
+//! texts up to a length.
 
+mod derived;
 mod edges;
 mod files;
 mod patterns;
 mod random;
+mod small;
 mod text;
 
 pub use edges::{decide_edges, line_edges, match_edges, normalise_edges, program_edges};
+pub use small::{after_slash, strings};
 
+use derived::derived_case;
 use files::Setting;
 use patterns::{normal_length, path, pattern, theme};
 use random::Random;
@@ -66,6 +71,7 @@ const MATCH: u64 = 2;
 const NORMALISE: u64 = 3;
 const LINE: u64 = 4;
 const PROGRAM: u64 = 5;
+const DERIVED: u64 = 6;
 
 /// Draws `count` cases of one sort.
 fn drawn<T>(
@@ -86,6 +92,12 @@ pub fn decide_cases(seed: u64, count: usize) -> impl Iterator<Item = DecideCase>
 /// Generated questions for matching.
 pub fn match_cases(seed: u64, count: usize) -> impl Iterator<Item = MatchCase> {
     drawn(seed, MATCH, count, match_case)
+}
+
+/// Generated questions for matching in which the pattern is made from the
+/// path, and then mostly damaged.
+pub fn derived_match_cases(seed: u64, count: usize) -> impl Iterator<Item = MatchCase> {
+    drawn(seed, DERIVED, count, derived_case)
 }
 
 /// Generated questions for normalising. The room is often the normalised

@@ -18,6 +18,24 @@ extern "C" {
     fn robots_line_kind(line: *const u8, line_length: usize) -> usize;
     fn robots_line_place(line: *const u8, line_length: usize) -> usize;
     fn robots_line_length(line: *const u8, line_length: usize) -> usize;
+    fn robots_match_refusal(
+        pattern: *const u8,
+        pattern_length: usize,
+        path: *const u8,
+        path_length: usize,
+    ) -> usize;
+    fn robots_match_found(
+        pattern: *const u8,
+        pattern_length: usize,
+        path: *const u8,
+        path_length: usize,
+    ) -> usize;
+    fn robots_match_compared(
+        pattern: *const u8,
+        pattern_length: usize,
+        path: *const u8,
+        path_length: usize,
+    ) -> usize;
 }
 
 /// Normalises a path into the front of `buffer`: octets written, 0 if
@@ -55,4 +73,22 @@ pub fn line_place(line: &[u8]) -> usize {
 pub fn line_length(line: &[u8]) -> usize {
     // SAFETY: pointer and length are those of a slice.
     unsafe { robots_line_length(line.as_ptr(), line.len()) }
+}
+
+/// The refusal of a pattern and a path; 0 if answered.
+pub fn match_refusal(pattern: &[u8], path: &[u8]) -> usize {
+    // SAFETY: both pointers and lengths are those of slices.
+    unsafe { robots_match_refusal(pattern.as_ptr(), pattern.len(), path.as_ptr(), path.len()) }
+}
+
+/// 1 if the pattern matches the path, otherwise 0; 0 if refused.
+pub fn match_found(pattern: &[u8], path: &[u8]) -> usize {
+    // SAFETY: both pointers and lengths are those of slices.
+    unsafe { robots_match_found(pattern.as_ptr(), pattern.len(), path.as_ptr(), path.len()) }
+}
+
+/// The pairs of octets that the leftmost walk compares; 0 if refused.
+pub fn match_compared(pattern: &[u8], path: &[u8]) -> usize {
+    // SAFETY: both pointers and lengths are those of slices.
+    unsafe { robots_match_compared(pattern.as_ptr(), pattern.len(), path.as_ptr(), path.len()) }
 }

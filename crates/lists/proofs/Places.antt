@@ -1,11 +1,11 @@
 -- Laws on a list as a part of another. Assumes nothing.
-use Prim.Native.Nat.{ℕ, suc, _+_, _≤_}
+use Prim.Native.Nat.{ℕ, suc, _+_, _-_, _≤_}
 use mathlib.Core.Path.{_≡_, refl, sym, ap, _∙_}
 use mathlib.Core.Bool.{Bool, true, false≢true}
 use mathlib.Core.List.{List, [], _∷_, _++_, append-assoc, append-nil, tail}
 use native.Mathlib.Omega.{arith}
-use lib.ListN.{length, take, drop, length-append, length-take, length-drop, take-append-drop}
-use lib.Seq.{take-append-seam, drop-at, length-take-le}
+use lib.ListN.{length, take, drop, length-append, length-take, length-drop, take-append-drop, drop-of-length-le}
+use lib.Seq.{take-append-seam, drop-append-le, drop-at, length-take-le}
 use Rattle.lists.specs.Lists.{any, upTo, from}
 use Rattle.lists.specs.Occurs.{Occurs}
 use Rattle.lists.proofs.Bools.{split}
@@ -68,6 +68,23 @@ module _ {A : Type 0} where
   occurs-drop l k h =
       let e : length (take k l) ≡ k = length-take-le k l h in
       rw (take-append-drop k l, e) at (occurs-back (take k l) (drop k l))
+
+  -- a part behind the first k elements
+  pub occurs-behind : (l v : List A) (j k : ℕ) → Occurs l j v → k ≤ j → Occurs (drop k l) (j - k) v
+  occurs-behind l v j k o h =
+      let fits : k ≤ length (o .front) = omega arith in
+      record {
+        front = drop k (o .front);
+        back = o .back;
+        whole = ap (drop k) (o .whole) ∙ drop-append-le k (o .front) (v ++ o .back) fits;
+        place = length-drop k (o .front) ∙ rw (o .place);
+      }
+
+  -- a list begins with a part at its front
+  pub occurs-begins : (l v : List A) (o : Occurs l 0 v) → l ≡ v ++ o .back
+  occurs-begins l v o =
+      let none : o .front ≡ [] = drop-of-length-le (o .front) {i = 0} (omega arith) in
+      rw none at (o .whole)
 
   pub occurs-upTo : (f : A → Bool) (l : List A) → Occurs l 0 (upTo f l)
   occurs-upTo f l = rw (upTo-from f l) at (occurs-front (upTo f l) (from f l))

@@ -41,6 +41,15 @@ module _ {A : Type 0} (f : A → Bool) where
   pub upTo-fits : (l : List A) → length (upTo f l) ≤ length l
   upTo-fits l = omega (arith, ap length (upTo-from f l), length-append (upTo f l) (from f l))
 
+  -- the element behind the first part passes the test
+  pub upTo-stops : (l : List A) (d : A) → length (upTo f l) < length l → f (getD l (length (upTo f l)) d) ≡ true
+  upTo-stops [] d h = absurd (omega arith)
+  upTo-stops (x ∷ l) d h =
+      split (f x) (λ e. rw (upTo-stop f x l e) e) (λ e. rw (upTo-on f x l e) (upTo-stops l d (shorter (rw (upTo-on f x l e) at h))))
+    where
+      shorter : {m n : ℕ} → suc m < suc n → m < n
+      shorter k = omega arith
+
   -- the two parts, read by the length of the first
   pub take-upTo : (l : List A) → take (length (upTo f l)) l ≡ upTo f l
   take-upTo l = rw (upTo-from f l) at (take-append-seam (upTo f l) (from f l))

@@ -149,7 +149,7 @@ fn put(p: Piece, out: &mut [u8], at: usize) -> usize
 }
 
 // Writes the normalised octets to the front, and tells how many.
-fn write(stars: bool, s: &[u8], out: &mut [u8]) -> usize
+pub fn write(stars: bool, s: &[u8], out: &mut [u8]) -> usize
     requires { ⌜ length (normal stars 0 (now s)) ≤ length (now out) ⌝ }
     ensures { λ r. ⌜ (r ≡ length (normal stars 0 (now (s .entry)))) × (now (out .exit) ≡ atFront (normal stars 0 (now (s .entry))) (now (out .entry))) ⌝ }
 {

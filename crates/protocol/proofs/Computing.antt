@@ -10,6 +10,7 @@ use Rattle.protocol.specs.Rules.{namedBy, someGroupNames, groupNames, ru
 use Rattle.protocol.specs.Normal.{encoded, meant, escape, isEscape, escapeAt, special, plain, piece, normal, normalPath}
 use Rattle.protocol.specs.Pattern.{rawText, shapeOf, weight, firstRun, laterRuns}
 use Rattle.protocol.specs.Walk.{tried, tryAt, seek, final, first, next, later, walkRuns, walk}
+use Rattle.protocol.specs.Starts.{laterStarts, starts}
 use Rattle.protocol.specs.Refusals.{outsidePath, refusal, decideRefusal, matchRefusal, normaliseRefusal, lineRefusal}
 use Rattle.protocol.specs.Decision.{readableRules, weightOf, walkOf, comparedBy, matching, outdoes, chosen, deciding, decidedBy, isRobotsFile, decidedAmong, answered}
 use Rattle.protocol.specs.Answers.{unlessRefused, decide, matchBy, matchOf, writtenBy, normalWritten, normaliseOf, normaliseBuffer, lineAnswerBy, lineAnswer}
@@ -28,7 +29,7 @@ unfolding roleOf groupAt ruledAfter placeInFile entryOf entriesFrom entries name
 groups = tt
 
 unfoldable pub patterns : Unit {0}
-unfolding encoded meant escape isEscape escapeAt special plain piece normal normalPath rawText shapeOf weight firstRun laterRuns tried tryAt seek final first next later walkRuns walk
+unfolding encoded meant escape isEscape escapeAt special plain piece normal normalPath rawText shapeOf weight firstRun laterRuns tried tryAt seek final first next later walkRuns walk laterStarts starts
 patterns = tt
 
 unfoldable pub answers : Unit {0}

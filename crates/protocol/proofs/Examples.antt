@@ -16,6 +16,7 @@ use Rattle.protocol.specs.OwnExamples.{ourTable, refusedAt, refusalAt, o
 use Rattle.protocol.specs.OwnExamples.{givenEntries, applyingLines, fillingAsked, fillingGives, ourFillings}
 use Rattle.protocol.specs.OwnExamples.{entryNumbers, entriesFile, entriesNumbers, lineAsked, ourLines}
 use Rattle.protocol.specs.OwnExamples.{matchAsked, matchAnswer, ourMatches, walkAsked, walkAnswer, ourWalks, normalAsked, ourNormals}
+use Rattle.protocol.specs.OwnExamples.{startsAsked, startsAnswer, ourStarts}
 use Rattle.protocol.specs.OwnExamples.{outputAsked, outputOf, ourRuns, ourNumbers, ourDecimals}
 use Rattle.protocol.specs.OwnExamples.{sorted, members, ourSorts, changed, afterwards, ourChanges}
 use Rattle.protocol.proofs.Computing.{computing}
@@ -91,6 +92,10 @@ matches-not m = omega (arith, ap length (m .gives), ap length (m .whole refl))
 pub our-walks : map walkAsked ourWalks ≡ map walkAnswer ourWalks
 unfolding computing ourWalks
 our-walks = refl
+
+pub our-starts : map startsAsked ourStarts ≡ map startsAnswer ourStarts
+unfolding computing ourStarts
+our-starts = refl
 
 pub our-normals : map normalAsked ourNormals ≡ ourNormals
 unfolding computing ourNormals

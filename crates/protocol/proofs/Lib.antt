@@ -6,3 +6,10 @@ pub mod Inside
 pub mod Sizes
 pub mod Unread
 pub mod Limits
+pub mod Tries
+pub mod Steps
+pub mod Counted
+pub mod Leftmost
+pub mod Starts
+pub mod Found
+pub mod MatchAnswer

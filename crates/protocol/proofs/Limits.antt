@@ -2,10 +2,18 @@
 -- rows of specs/OwnExamples.antt. Assumes nothing.
 use Prim.Native.Nat.{ℕ, _≤_, _<_}
 use mathlib.Core.Path.{_≡_}
+use mathlib.Core.Bool.{true}
 use mathlib.Core.List.{List, [], _∷_, _++_}
+use native.Mathlib.Omega.{arith}
+use lib.Dec.{ltb}
 use lib.ListN.{length}
-use borrow.Author.Tests.{lt-ltb, le-ltb}
+use borrow.Author.Tests.{lt-ltb, le-ltb, ltb-false}
+use Rattle.lists.proofs.Bools.{split}
+use Rattle.protocol.specs.Octets.{is}
+use Rattle.protocol.specs.Text.{begins}
+use Rattle.protocol.specs.Normal.{normalPath}
 use Rattle.protocol.specs.Refusals.{Row, tooLong, severalLines, badName, badPattern, pathRows, refusal, decideRefusal, matchRefusal, lineRefusal}
+use Rattle.protocol.proofs.Sizes.{path-limit}
 
 module _ (l : List ℕ) (rows : List Row) where
   pub too-long : 512_000 < length l → refusal (tooLong l ∷ rows) ≡ 1
@@ -28,3 +36,19 @@ pattern-too-long pattern path h = too-long pattern (pathRows path ++ (badPattern
 pub line-too-long : (line : List ℕ) → 512_000 < length line → lineRefusal line ≡ 1
 unfolding lineRefusal
 line-too-long line h = too-long line (severalLines line ∷ []) h
+
+-- what is known of a path that no row of its own refuses
+pub path-known : (path : List ℕ) → refusal (pathRows path) ≡ 0 → (begins "/" path ≡ true) × (length path ≤ 2_048)
+unfolding refusal begins
+path-known [] h = absurd (omega arith)
+path-known (x ∷ l) h =
+    split (ltb 2_048 (length (x ∷ l)))
+    (λ e. let z : 3 ≡ 0 = rw e at h in absurd (omega arith))
+    (λ e.
+    split (is "/" x)
+    (λ b. (b, ltb-false 2_048 (length (x ∷ l)) e))
+    (λ b. let z : 4 ≡ 0 = rw (e, b) at h in absurd (omega arith)))
+
+-- such a path has at most 6,142 octets normalised
+pub path-room : (path : List ℕ) → refusal (pathRows path) ≡ 0 → length (normalPath path) ≤ 6_142
+path-room path h = let (b, l) = path-known path h in path-limit path b l

@@ -1,6 +1,6 @@
 -- "What a caller may ask": the answer to each question, for every input, with its refused form. Assumes nothing.
 use Prim.Native.Nat.{ℕ, zero, suc}
-use mathlib.Core.Bool.{false}
+use mathlib.Core.Bool.{Bool, true, false}
 use mathlib.Core.List.{List, [], _++_}
 use lib.ListN.{length, drop}
 use Rattle.protocol.specs.declared.Place.{Place}
@@ -56,6 +56,11 @@ matchBy (suc n) w = record { refusal = suc n; found = false; compared = 0 }
 
 unfoldable pub matchOf : List ℕ → List ℕ → Matched
 matchOf pattern path = matchBy (matchRefusal pattern path) (walk (shapeOf pattern) (normalPath path))
+
+-- "yes or no" where a number is wanted
+abbrev pub foundNumber : Bool → ℕ
+foundNumber true = 1
+foundNumber false = 0
 
 -- "Normalise a path into a lent buffer": what is written into its front. "a refused normalising writes nothing and reports 0"
 unfoldable pub writtenBy : ℕ → List ℕ → List ℕ

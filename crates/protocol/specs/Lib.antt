@@ -9,6 +9,7 @@ pub mod Normal
 pub mod Pattern
 pub mod Matching
 pub mod Walk
+pub mod Starts
 pub mod Refusals
 pub mod Decision
 pub mod Answers

@@ -19,6 +19,7 @@ use Rattle.protocol.specs.Rules.{applying}
 use Rattle.protocol.specs.Pattern.{shapeOf}
 use Rattle.protocol.specs.Matching.{filled}
 use Rattle.protocol.specs.Walk.{walk}
+use Rattle.protocol.specs.Starts.{starts}
 use Rattle.protocol.specs.Answers.{decide, matchOf, normaliseOf, normaliseBuffer, lineAnswer, refusalOf, kindNumberOf, valuePlace, valueLength}
 use Rattle.protocol.specs.Program.{output}
 use Rattle.protocol.specs.Examples.{allow, disallow, refused, Row, lines, rowIn, row}
@@ -337,6 +338,10 @@ ourMatches =
     -- a try that would pass the end fails at no cost
     ∷ matchRow "/aaa" "/a" 0 false 0
     ∷ matchRow "/*aab" "/aaac" 0 false 7
+    -- the first run is tried at 0 only
+    ∷ matchRow "/b" "/a/b" 0 false 2
+    -- after a failed run nothing more is tried
+    ∷ matchRow "/b*a" "/a" 0 false 2
     -- /robots.txt is a path like any other
     ∷ matchRow "/" "/robots.txt" 0 true 1
     ∷ matchRow "/" "" 3 false 0
@@ -395,6 +400,30 @@ ourWalks =
     ∷ walkRow "/*c$" "/abc" true 4 2
     ∷ walkRow "/b" "/a" false 0 2
     ∷ walkRow "/a$" "/ab" false 0 0
+    ∷ []
+
+-- Where a walk that finds a match puts the runs: the place of each
+pub record StartsRow : Type 0 where
+  pub pattern : String
+  pub path : String
+  pub places : List ℕ
+
+abbrev pub startsRow : String → String → List ℕ → StartsRow
+startsRow q p l = record { pattern = q; path = p; places = l }
+
+abbrev pub startsAsked : StartsRow → List ℕ
+startsAsked r = starts (shapeOf (octets (r .pattern))) (octets (r .path))
+
+abbrev pub startsAnswer : StartsRow → List ℕ
+startsAnswer r = r .places
+
+unfoldable pub ourStarts : List StartsRow
+ourStarts =
+    startsRow "/*.htm" "/page.htm" (0 ∷ 5 ∷ [])
+    -- "b" stands at 2, 3 and 5, and is put at the first of them; "c" stands at 4 and 6, and has to end the path
+    ∷ startsRow "/a*b*c$" "/abbcbc" (0 ∷ 2 ∷ 6 ∷ [])
+    -- an empty run is put at the end of the run ahead
+    ∷ startsRow "/a**b*" "/ab" (0 ∷ 2 ∷ 2 ∷ 3 ∷ [])
     ∷ []
 
 -- One path and a lent buffer: refusal, octets written, and what the buffer holds then

@@ -2,8 +2,43 @@
 // says what a caller owes.
 
 ghost use mathlib.Core.Path.{_≡_};
-ghost use Rattle.protocol.specs.Refusals.{normaliseRefusal, lineRefusal};
-ghost use Rattle.protocol.specs.Answers.{normaliseOf, normaliseBuffer, lineAnswer, kindNumberOf, valuePlace, valueLength};
+ghost use mathlib.Core.Logic.{_↔_};
+ghost use Prim.Native.Nat.{_*_, _≤_};
+ghost use lib.ListN.{length};
+ghost use Rattle.protocol.specs.Normal.{normalPath};
+ghost use Rattle.protocol.specs.Pattern.{shapeOf, weight};
+ghost use Rattle.protocol.specs.Matching.{Matches};
+ghost use Rattle.protocol.specs.Refusals.{matchRefusal, normaliseRefusal, lineRefusal};
+ghost use Rattle.protocol.specs.Answers.{matchOf, foundNumber, normaliseOf, normaliseBuffer, lineAnswer, kindNumberOf, valuePlace, valueLength};
+
+// Why a match is refused: 0 where it isn't.
+#[no_mangle]
+pub extern "C" fn robots_match_refusal(pattern: &[u8], path: &[u8]) -> usize
+    ensures { λ r. ⌜ r ≡ matchRefusal (now (pattern .entry)) (now (path .entry)) ⌝ }
+{
+    walk::answers::match_refusal(pattern, path)
+}
+
+// 1 where the pattern matches the path, and 0 where it doesn't or the match is refused. Not refused, it is 1 exactly where some filling of the
+// stars gives the path or its beginning.
+#[no_mangle]
+pub extern "C" fn robots_match_found(pattern: &[u8], path: &[u8]) -> usize
+    ensures { λ r. ⌜ r ≡ foundNumber (matchOf (now (pattern .entry)) (now (path .entry)) .found) ⌝ }
+    ensures { λ r. ⌜ (matchRefusal (now (pattern .entry)) (now (path .entry)) ≡ 0 → (r ≡ 1) ↔ Matches (shapeOf (now (pattern .entry))) (normalPath (now (path .entry)))) ⌝ }
+{
+    let answer = walk::answers::match_pattern(pattern, path);
+    if answer.found { 1 } else { 0 }
+}
+
+// The pairs of octets that the leftmost walk compares, at most the pattern's weight times the octets of the normalised path.
+#[no_mangle]
+pub extern "C" fn robots_match_compared(pattern: &[u8], path: &[u8]) -> usize
+    ensures { λ r. ⌜ r ≡ matchOf (now (pattern .entry)) (now (path .entry)) .compared ⌝ }
+    ensures { λ r. ⌜ r ≤ weight (shapeOf (now (pattern .entry))) * length (normalPath (now (path .entry))) ⌝ }
+{
+    let answer = walk::answers::match_pattern(pattern, path);
+    answer.compared
+}
 
 // The octets written into the front of the buffer: 0 where the path is refused.
 #[no_mangle]

@@ -1,7 +1,7 @@
 //! One question to the library, its answer whole, and the evaluator's beside
 //! it.
 
-use evaluator::LineKind;
+use evaluator::{LineKind, Matched};
 
 /// Memory of exactly these octets, so that a read past the last one is a read
 /// past an allocation.
@@ -129,4 +129,74 @@ pub fn check_path(path: &[u8]) {
 fn normal_length(path: &[u8]) -> usize {
     let mut buffer = [0; 6_142];
     evaluator::normalise(path, &mut buffer).written
+}
+
+/// The library's three numbers for a pattern and a path, where they stand.
+pub fn match_in_place(pattern: &[u8], path: &[u8]) -> Matched {
+    let found = library::match_found(pattern, path);
+    assert!(found <= 1, "found {found}, {}", both_shown(pattern, path));
+    Matched {
+        refusal: library::match_refusal(pattern, path),
+        found: found == 1,
+        compared: library::match_compared(pattern, path),
+    }
+}
+
+/// A pattern and a path for a message.
+pub fn both_shown(pattern: &[u8], path: &[u8]) -> String {
+    format!("pattern {} and path {}", shown(pattern), shown(path))
+}
+
+/// What the library says of a pattern and a path.
+pub fn matched(pattern: &[u8], path: &[u8]) -> Matched {
+    let (given_pattern, given_path) = (exact(pattern), exact(path));
+    let answer = match_in_place(&given_pattern, &given_path);
+    assert!(
+        *given_pattern == *pattern && *given_path == *path,
+        "changed: {}",
+        both_shown(pattern, path)
+    );
+    answer
+}
+
+/// The match is the evaluator's; gives it back.
+pub fn check_match(pattern: &[u8], path: &[u8]) -> Matched {
+    let answer = matched(pattern, path);
+    let expected = evaluator::match_pattern(pattern, path);
+    assert_eq!(
+        answer,
+        expected,
+        "library and evaluator on {}",
+        both_shown(pattern, path)
+    );
+    answer
+}
+
+/// Library and evaluator give this match.
+pub fn check_walk(pattern: &[u8], path: &[u8], found: bool, compared: usize) {
+    let expected = Matched {
+        refusal: 0,
+        found,
+        compared,
+    };
+    let answer = check_match(pattern, path);
+    assert_eq!(answer, expected, "{}", both_shown(pattern, path));
+}
+
+/// Library and evaluator refuse: "A refused match is "no" with count 0".
+pub fn check_refused_match(pattern: &[u8], path: &[u8], refusal: usize) {
+    let expected = Matched {
+        refusal,
+        found: false,
+        compared: 0,
+    };
+    let answer = check_match(pattern, path);
+    assert_eq!(answer, expected, "{}", both_shown(pattern, path));
+}
+
+/// "/" and then one octet again and again.
+pub fn slash_and(octet: u8, length: usize) -> Vec<u8> {
+    let mut text = vec![octet; length];
+    text[0] = b'/';
+    text
 }

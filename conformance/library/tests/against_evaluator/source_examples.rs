@@ -5,9 +5,11 @@ use examples::{Expected, Question};
 
 use crate::ask;
 
-/// How many rows ask for a normalised path, and how many for a line's kind.
+/// How many rows ask for a normalised path, for a line's kind, and for a
+/// match.
 const NORMALISE_ROWS: usize = 16;
 const LINE_ROWS: usize = 29;
+const MATCH_ROWS: usize = 89;
 
 #[test]
 fn every_example_of_normalising() {
@@ -51,4 +53,25 @@ fn every_example_of_a_line() {
         );
     }
     assert_eq!(rows, LINE_ROWS, "rows that ask for a line");
+}
+
+#[test]
+fn every_example_of_a_match() {
+    let mut rows = 0;
+    for row in examples::all().unwrap_or_else(|fault| panic!("{fault}")) {
+        let (Question::Match { pattern, path }, Expected::Match(expected)) =
+            (&row.question, &row.expected)
+        else {
+            continue;
+        };
+        rows += 1;
+        assert_eq!(
+            ask::matched(pattern, path),
+            *expected,
+            "{}: {}",
+            row.id,
+            ask::both_shown(pattern, path)
+        );
+    }
+    assert_eq!(rows, MATCH_ROWS, "rows that ask for a match");
 }

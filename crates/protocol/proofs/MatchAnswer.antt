@@ -1,0 +1,72 @@
+-- What the answer to "Match one pattern against one path" says. Assumes nothing.
+use Prim.Native.Nat.{ℕ, zero, suc, _*_, _≤_}
+use mathlib.Core.Path.{_≡_, refl, ap}
+use mathlib.Core.Bool.{Bool, true, false}
+use mathlib.Core.Logic.{_↔_}
+use mathlib.Core.List.{List}
+use native.Mathlib.Omega.{arith}
+use lib.ListN.{length}
+use Rattle.protocol.specs.declared.Walked.{Walked}
+use Rattle.protocol.specs.Normal.{normalPath}
+use Rattle.protocol.specs.Pattern.{shapeOf, weight}
+use Rattle.protocol.specs.Matching.{Matches}
+use Rattle.protocol.specs.Walk.{walk}
+use Rattle.protocol.specs.Refusals.{matchRefusal}
+use Rattle.protocol.specs.Answers.{matchBy, matchOf, foundNumber}
+use Rattle.protocol.proofs.Counted.{walk-bound}
+use Rattle.protocol.proofs.Found.{walk-finds}
+
+-- for a refusal n and a walk w
+refusal-by : (n : ℕ) (w : Walked) → matchBy n w .refusal ≡ n
+unfolding matchBy
+refusal-by zero w = refl
+refusal-by (suc n) w = refl
+
+refused-by : (n : ℕ) (w : Walked) → (n ≡ 0 → ⊥) → matchBy n w ≡ record { refusal = n; found = false; compared = 0 }
+unfolding matchBy
+refused-by zero w h = absurd (h refl)
+refused-by (suc n) w h = refl
+
+compared-by : (n : ℕ) (w : Walked) → matchBy n w .compared ≤ w .count
+unfolding matchBy
+compared-by zero w = omega arith
+compared-by (suc n) w = omega arith
+
+number-one : (b : Bool) → foundNumber b ≡ 1 → b ≡ true
+number-one true h = refl
+number-one false h = absurd (omega arith)
+
+module _ (pattern path : List ℕ) where
+  pub match-refusal : matchOf pattern path .refusal ≡ matchRefusal pattern path
+  unfolding matchOf
+  match-refusal = refusal-by (matchRefusal pattern path) (walk (shapeOf pattern) (normalPath path))
+
+  -- "A refused match is "no" with count 0"
+  pub match-refused : (matchRefusal pattern path ≡ 0 → ⊥)
+      → matchOf pattern path ≡ record { refusal = matchRefusal pattern path; found = false; compared = 0 }
+  unfolding matchOf
+  match-refused h = refused-by (matchRefusal pattern path) (walk (shapeOf pattern) (normalPath path)) h
+
+  -- "yes or no, with the count of that walk"
+  pub match-answered : matchRefusal pattern path ≡ 0
+      → matchOf pattern path
+      ≡ record { refusal = 0; found = walk (shapeOf pattern) (normalPath path) .stood; compared = walk (shapeOf pattern) (normalPath path) .count }
+  unfolding matchOf matchBy
+  match-answered e = rw e
+
+  -- yes exactly when the pattern matches the normalised path
+  pub match-found : matchRefusal pattern path ≡ 0 → (matchOf pattern path .found ≡ true) ↔ Matches (shapeOf pattern) (normalPath path)
+  match-found e = rw (match-answered e) (walk-finds (shapeOf pattern) (normalPath path))
+
+  -- as a number
+  pub match-number : matchRefusal pattern path ≡ 0 → (foundNumber (matchOf pattern path .found) ≡ 1) ↔ Matches (shapeOf pattern) (normalPath path)
+  match-number e =
+      let (there, back) = match-found e in
+      (λ h. there (number-one (matchOf pattern path .found) h), λ m. ap foundNumber (back m))
+
+  -- the count is at most the pattern's weight times the octets of the normalised path
+  pub match-bound : matchOf pattern path .compared ≤ weight (shapeOf pattern) * length (normalPath path)
+  unfolding matchOf
+  match-bound =
+      let w : Walked = walk (shapeOf pattern) (normalPath path) in
+      omega (arith, compared-by (matchRefusal pattern path) w, walk-bound (shapeOf pattern) (normalPath path))

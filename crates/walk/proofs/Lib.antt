@@ -1,0 +1,6 @@
+mod Cuts
+mod Marked
+mod Refusing
+mod Scratch
+mod Turns
+mod Weighing

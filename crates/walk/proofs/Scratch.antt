@@ -1,0 +1,64 @@
+-- What is written to the front of lent memory: one raw run in the scratch, or, where it doesn't fit, a failed run. Assumes nothing.
+use Prim.Native.Nat.{ℕ, _≤_, _<_}
+use mathlib.Core.Path.{_≡_, sym, ap, _∙_}
+use mathlib.Core.Bool.{Bool, true, false}
+use mathlib.Core.List.{List}
+use native.Mathlib.Omega.{arith}
+use lib.ListN.{length, take, drop, length-drop}
+use lib.Seq.{take-append-seam}
+use lib.Dec.{leb}
+use borrow.Author.Tests.{leb-true, leb-false}
+use Rattle.lists.proofs.Bools.{split}
+use Rattle.protocol.specs.declared.Walked.{Walked}
+use Rattle.protocol.specs.Answers.{atFront}
+use Rattle.protocol.specs.Walk.{failed, next}
+use Rattle.protocol.proofs.Steps.{final-out, next-final, next-seek}
+use Rattle.protocol.proofs.Tries.{seek-out}
+use Rattle.normal.specs.declared.Written.{Written}
+use Rattle.normal.specs.Runs.{normalRun, runOf, runScratch}
+
+-- what is written to the front is read there
+pub front-read : (v memory l : List ℕ) (n : ℕ) → n ≡ length v → l ≡ atFront v memory → take n l ≡ v
+front-read v memory l n h e = rw (h, e) (take-append-seam v _)
+
+-- the run fits, and is read where it was written
+pub record Fits (run scratch : List ℕ) (n : ℕ) : Type 0 where
+  pub size : length (normalRun run) ≡ n
+  pub room : n ≤ length scratch
+  pub read : take n (runScratch run scratch) ≡ normalRun run
+
+-- what `runOf` tells, as a test and as a number
+abbrev fitted : Written → Bool
+fitted (Written.Octets n) = true
+fitted Written.NoRoom = false
+
+abbrev octetsOf : Written → ℕ
+octetsOf (Written.Octets n) = n
+octetsOf Written.NoRoom = 0
+
+module _ (run scratch : List ℕ) where
+  fitted-run : fitted (runOf run scratch) ≡ leb (length (normalRun run)) (length scratch)
+  unfolding runOf
+  fitted-run = split (leb (length (normalRun run)) (length scratch)) (λ f. rw f) (λ f. rw f)
+
+  octets-run : leb (length (normalRun run)) (length scratch) ≡ true → octetsOf (runOf run scratch) ≡ length (normalRun run)
+  unfolding runOf
+  octets-run f = rw f
+
+  pub run-fits : (n : ℕ) → runOf run scratch ≡ Written.Octets n → Fits run scratch n
+  unfolding runScratch
+  run-fits n e =
+      let f : leb (length (normalRun run)) (length scratch) ≡ true = sym fitted-run ∙ ap fitted e in
+      let q : length (normalRun run) ≡ n = sym (octets-run f) ∙ ap octetsOf e in
+      let l : length (normalRun run) ≤ length scratch = leb-true _ _ f in
+      record { size = q; room = rw q at l; read = front-read (normalRun run) scratch _ n (sym q) (rw f) }
+
+  pub run-outgrows : runOf run scratch ≡ Written.NoRoom → length scratch < length (normalRun run)
+  run-outgrows e = leb-false _ _ (sym fitted-run ∙ ap fitted e)
+
+-- a later run that is longer than the path fails at no cost
+pub next-short : (last : Bool) (r path : List ℕ) (w : Walked) → w .stood ≡ true → length path < length r → next last r path w ≡ failed (w .count)
+next-short last r path w e l =
+    split last
+    (λ z. next-final r path w last e z ∙ final-out r (w .past) (w .count) path (omega arith))
+    (λ z. next-seek r path w last e z ∙ seek-out r (w .past) (w .count) (drop (w .past) path) (simp length-drop (omega arith)))

@@ -1,0 +1,91 @@
+-- `walk::patterns::later_raw` meets its contract. Assumes nothing.
+use Prim.Native.Nat.{ℕ}
+use mathlib.Core.Path.{_≡_, sym, ap, _∙_}
+use mathlib.Core.List.{List}
+use native.Mathlib.Omega.{arith}
+use lib.ListN.{take}
+use lib.Seq.{length-take-le}
+use borrow.Author.Needs.{needs}
+use Rattle.normal.specs.Runs.{normalRun}
+use Rattle.protocol.specs.Walk.{next}
+use Rattle.walk.proofs.Scratch.{Fits, run-fits, run-outgrows, next-short}
+use Rattle.walk.proofs.patterns.later_raw.Statement.{statement}
+use Rattle.walk.proofs.patterns.later_raw.Tie as tie
+
+normalise-run-requires : tie.Need-normalise-run-requires
+normalise-run-requires c κs = search needs
+
+enum-known-n : tie.Need-enum-known-n
+enum-known-n c = search needs
+
+-- the run in the scratch
+fits : (c : tie.After-known-told)
+    → let s = c .before .before .before .before .before in
+    let a = s .before .before .before .before .before .args in
+    Fits (a .run .now) (a .scratch .now) (c .before .n .given .0 .0)
+fits c =
+    let s = c .before .before .before .before .before in
+    let a = s .before .before .before .before .before .args in
+    run-fits (a .run .now) (a .scratch .now) (c .before .n .given .0 .0) (sym (s .normalise-run .ensures .0) ∙ c .before .n .given .1)
+
+-- the octets that are lent are the run's
+tried-run : (c : tie.After-known-told)
+    → let s = c .before .before .before .before .before in
+    take (c .before .n .given .0 .0) (s .normalise-run .last .1 .0) ≡ normalRun (s .before .before .before .before .before .args .run .now)
+tried-run c = ap (take (c .before .n .given .0 .0)) (c .before .before .before .before .before .normalise-run .ensures .1) ∙ fits c .read
+
+slice-reshare-prefix-later-run : tie.Need-slice-reshare-prefix-later-run
+slice-reshare-prefix-later-run c =
+    omega (arith, fits c .room, c .before .before .before .before .before .normalise-run .kept .1 .0)
+
+slice-aggregate-later-run : tie.Need-slice-aggregate-later-run
+slice-aggregate-later-run c = sym (length-take-le _ _ (slice-reshare-prefix-later-run (c .before)))
+
+later-run-requires : tie.Need-later-run-requires
+later-run-requires c κs =
+    let s = c .before .before .before .before .before .before in
+    let p = s .before .before .before .before .before .pre in
+    rw (tried-run (c .before)) (p .1, p .2, p .3)
+
+enum-told : tie.Need-enum-told
+enum-told c = search needs
+
+fail-requires : tie.Need-fail-requires
+fail-requires c κs = search needs
+
+same-length : tie.Need-same-length
+same-length c = search needs
+
+returns : tie.Need-returns
+returns c =
+    let t = c .before .before in
+    let s = t .before .before .before .before .before in
+    let a = s .before .before .before .before .before .args in
+    (c .later-run .ensures ∙ ap (λ (r : List ℕ). next (a .last) r (a .path .now) (a .w)) (tried-run t), s .normalise-run .ensures .1)
+
+same-length-2 : tie.Need-same-length-2
+same-length-2 c = search needs
+
+returns-2 : tie.Need-returns-2
+returns-2 c =
+    let t = c .before in
+    let s = t .before .before .before .before in
+    let a = s .before .before .before .before .before .args in
+    let l = run-outgrows (a .run .now) (a .scratch .now) (sym (s .normalise-run .ensures .0) ∙ t .enum-told .given .1) in
+    (c .fail .ensures ∙ sym (next-short (a .last) (normalRun (a .run .now)) (a .path .now) (a .w) (s .before .before .before .before .before .pre .1) (omega (arith, l))), s .normalise-run .ensures .1)
+
+pub later-raw-spec : {M : Type 1} → statement M
+later-raw-spec =
+    tie.close
+    (tie.spec
+    normalise-run-requires
+    enum-known-n
+    slice-reshare-prefix-later-run
+    slice-aggregate-later-run
+    later-run-requires
+    enum-told
+    fail-requires
+    same-length
+    returns
+    same-length-2
+    returns-2)

@@ -1,0 +1,32 @@
+-- The walk of a raw pattern: cut at its stars first, each run normalised by itself into the lent scratch. Assumes nothing.
+use Prim.Native.Nat.{ℕ}
+use mathlib.Core.Bool.{Bool}
+use mathlib.Core.List.{List, [], _∷_, map}
+use Rattle.lists.specs.Choice.{if_then_else_}
+use Rattle.protocol.specs.declared.Walked.{Walked}
+use Rattle.protocol.specs.Text.{ends}
+use Rattle.protocol.specs.Pattern.{rawText, firstRun, laterRuns}
+use Rattle.protocol.specs.Walk.{first, next, isLast, walkRuns}
+use Rattle.normal.specs.Runs.{normalRun, runScratch}
+
+-- the later runs of a raw text, each normalised
+abbrev pub runsOf : List ℕ → List (List ℕ)
+runsOf text = map normalRun (laterRuns text)
+
+-- the walk of a raw text, with or without an end mark behind it
+unfoldable pub walkText : Bool → List ℕ → List ℕ → Walked
+walkText endMark text path = walkRuns endMark (normalRun (firstRun text)) (runsOf text) path
+
+-- the scratch after the later runs, raw, where the walk stands at w: a run that isn't reached isn't normalised
+unfoldable pub scratchLater : Bool → List (List ℕ) → List ℕ → Walked → List ℕ → List ℕ
+scratchLater endMark [] path w scratch = scratch
+scratchLater endMark (r ∷ rs) path w scratch =
+    scratchLater endMark rs path (next (isLast endMark rs) (normalRun r) path w) (if w .stood then runScratch r scratch else scratch)
+
+unfoldable pub scratchText : Bool → List ℕ → List ℕ → List ℕ → List ℕ
+scratchText endMark text path scratch =
+    scratchLater endMark (laterRuns text) path (first (isLast endMark (laterRuns text)) (normalRun (firstRun text)) path) (runScratch (firstRun text) scratch)
+
+-- the scratch after the walk of a raw pattern
+unfoldable pub walkScratch : List ℕ → List ℕ → List ℕ → List ℕ
+walkScratch pattern path scratch = scratchText (ends "$" pattern) (rawText pattern) path scratch

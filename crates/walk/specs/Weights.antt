@@ -1,0 +1,13 @@
+-- A walk with the pattern's weight. Assumes nothing.
+use Prim.Native.Nat.{ℕ}
+use mathlib.Core.List.{List}
+use Rattle.lists.specs.Choice.{if_then_else_}
+use Rattle.protocol.specs.Pattern.{shapeOf, weight}
+use Rattle.protocol.specs.Walk.{walk}
+use Rattle.walk.specs.declared.patterns.Weighed.{Weighed}
+
+-- what a raw pattern's walk over a normalised path finds, and the weight: 0 where it is no match
+unfoldable pub weighed : List ℕ → List ℕ → Weighed
+weighed pattern path =
+    let w = walk (shapeOf pattern) path in
+    record { found = w .stood; weight = if w .stood then weight (shapeOf pattern) else 0; compared = w .count }
