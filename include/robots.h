@@ -122,13 +122,13 @@ size_t robots_line_length(const uint8_t *line, size_t line_length);
 /*
  * One pattern against one path.
  *
- * The pattern is given raw, as it stands in a rule line: "*" is a star and
- * stands for any number of octets, none included; "$" as the last octet is
- * the end mark; "$" elsewhere and all other octets are themselves. It is
- * readable if it begins with "/" and is UTF-8 that holds neither "#" nor an
- * octet under 0x21. The path is given raw too, with its query if any. Both
- * are normalised before they are compared. /robots.txt is a path like others
- * here.
+ * The pattern is given raw, as it stands in a rule line. "*" is a star: it
+ * stands for any number of octets of the normalised path, none included, and
+ * may stop inside a %XX. "$" as the last octet is the end mark. All else
+ * stands for itself; %61 is "a", but %2F isn't "/". A pattern is readable if
+ * it begins with "/" and is UTF-8 that holds neither "#" nor an octet under
+ * 0x21. The path is given raw too, with its query if any. Both are normalised
+ * before they are compared. /robots.txt is a path like others here.
  *
  * A call needs about 12 KiB of stack, however long the pattern is. No memory
  * is lent to it.

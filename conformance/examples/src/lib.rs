@@ -3,15 +3,20 @@
 //!
 //! Each row holds a question, what the source prints, and what document 01
 //! answers. Of the evaluator only the types of its answers are used here.
+//!
+//! `walk_rows` gives walks of our own, worked out by hand.
 
 mod answer;
+mod long_walks;
 mod octets;
 mod reader;
+mod walks;
 
 use std::fmt;
 
 pub use evaluator::{Decision, LineKind, Matched};
 pub use reader::read;
+pub use walks::{walk_rows, WalkRow};
 
 /// The data files, by name and content.
 pub const SOURCES: [(&str, &str); 4] = [

@@ -61,7 +61,8 @@ fn spelt(random: &mut Random, octet: u8) -> Vec<u8> {
     }
 }
 
-/// Changes, adds or takes away an octet behind the first one.
+/// Changes, takes away or adds an octet behind the first one, or swaps two
+/// neighbours there.
 fn damage(random: &mut Random, pattern: &mut Vec<u8>) {
     let length = pattern.len();
     let octet = random.octet_of(b"abbc/.%$?");

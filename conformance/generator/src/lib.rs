@@ -94,8 +94,8 @@ pub fn match_cases(seed: u64, count: usize) -> impl Iterator<Item = MatchCase> {
     drawn(seed, MATCH, count, match_case)
 }
 
-/// Generated questions for matching in which the pattern is made from the
-/// path, and then mostly damaged.
+/// Generated questions for matching, with patterns that are made from the
+/// path, most of them damaged.
 pub fn derived_match_cases(seed: u64, count: usize) -> impl Iterator<Item = MatchCase> {
     drawn(seed, DERIVED, count, derived_case)
 }

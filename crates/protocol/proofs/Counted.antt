@@ -41,14 +41,14 @@ final-costs r k n path =
     (λ l. rw l (widened r path d n (tryAt r d n (drop d path)) (tryAt-costs r d n (drop d path))))
     (λ l. rw l (omega arith))
 
-pub first-costs : (last : Bool) (r path : List ℕ) → Costs 0 (length r * length path) (first last r path)
+first-costs : (last : Bool) (r path : List ℕ) → Costs 0 (length r * length path) (first last r path)
 first-costs true r path =
     split (eqb (length r) (length path))
     (λ e. rw (first-whole r path (eqb-true _ _ e)) (tryAt-costs r 0 0 path))
     (λ e. rw (first-out r path (eqb-false _ _ e)) (omega arith))
 first-costs false r path = rw (first-part r path) (tryAt-costs r 0 0 path)
 
-pub next-costs : (last : Bool) (r path : List ℕ) (w : Walked) → Costs (w .count) (length r * length path) (next last r path w)
+next-costs : (last : Bool) (r path : List ℕ) (w : Walked) → Costs (w .count) (length r * length path) (next last r path w)
 next-costs last r path w =
     let t = drop (w .past) path in
     split (w .stood)

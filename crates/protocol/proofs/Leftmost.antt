@@ -17,10 +17,10 @@ use Rattle.protocol.proofs.Tries.{tried-self, tried-stood, seek-cases}
 use Rattle.protocol.proofs.Steps.{final-in, final-out, first-out, first-short, first-in, next-final, next-seek}
 
 -- a try finds no difference exactly where the path goes on with the run
-pub tried-stands : (r t : List ℕ) (n : ℕ) → tried r t n .stood ≡ true → Occurs t 0 r
+tried-stands : (r t : List ℕ) (n : ℕ) → tried r t n .stood ≡ true → Occurs t 0 r
 tried-stands r t n e = record { front = []; back = drop (length r) t; whole = tried-stood r t n e; place = refl }
 
-pub tried-finds : (r t : List ℕ) (n : ℕ) → Occurs t 0 r → tried r t n .stood ≡ true
+tried-finds : (r t : List ℕ) (n : ℕ) → Occurs t 0 r → tried r t n .stood ≡ true
 tried-finds r t n o = rw (occurs-begins t r o) (tried-self r (o .back) n)
 
 -- the walk v put the run r at j, where it stands, and an end-marked last run ends the path

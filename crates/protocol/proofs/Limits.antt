@@ -1,5 +1,5 @@
 -- "Just inside: a 512,000-octet file [..]. One more octet [..] is refused": the limit that is too long to compute with. The others are
--- rows of specs/OwnExamples.antt. Assumes nothing.
+-- rows of specs/OwnExamples.antt. And how long a path is that isn't refused. Assumes nothing.
 use Prim.Native.Nat.{ℕ, _≤_, _<_}
 use mathlib.Core.Path.{_≡_}
 use mathlib.Core.Bool.{true}
@@ -37,7 +37,7 @@ pub line-too-long : (line : List ℕ) → 512_000 < length line → lineRefusal 
 unfolding lineRefusal
 line-too-long line h = too-long line (severalLines line ∷ []) h
 
--- what is known of a path that no row of its own refuses
+-- the beginning and the length of a path that no row of its own refuses
 pub path-known : (path : List ℕ) → refusal (pathRows path) ≡ 0 → (begins "/" path ≡ true) × (length path ≤ 2_048)
 unfolding refusal begins
 path-known [] h = absurd (omega arith)

@@ -17,11 +17,6 @@ use Rattle.protocol.proofs.Counted.{walk-bound}
 use Rattle.protocol.proofs.Found.{walk-finds}
 
 -- for a refusal n and a walk w
-refusal-by : (n : ℕ) (w : Walked) → matchBy n w .refusal ≡ n
-unfolding matchBy
-refusal-by zero w = refl
-refusal-by (suc n) w = refl
-
 refused-by : (n : ℕ) (w : Walked) → (n ≡ 0 → ⊥) → matchBy n w ≡ record { refusal = n; found = false; compared = 0 }
 unfolding matchBy
 refused-by zero w h = absurd (h refl)
@@ -37,10 +32,6 @@ number-one true h = refl
 number-one false h = absurd (omega arith)
 
 module _ (pattern path : List ℕ) where
-  pub match-refusal : matchOf pattern path .refusal ≡ matchRefusal pattern path
-  unfolding matchOf
-  match-refusal = refusal-by (matchRefusal pattern path) (walk (shapeOf pattern) (normalPath path))
-
   -- "A refused match is "no" with count 0"
   pub match-refused : (matchRefusal pattern path ≡ 0 → ⊥)
       → matchOf pattern path ≡ record { refusal = matchRefusal pattern path; found = false; compared = 0 }

@@ -48,35 +48,35 @@ starts-stand s path h =
     rw at (refl, (omega arith, p .stands, rw (← p .ends) behind))
 
 -- the later runs, each behind what fills the star in front of it
-unfoldable woven : List (List ℕ) → List (List ℕ) → List ℕ
-woven [] fillings = []
-woven (r ∷ rs) fillings = nextFilling fillings ++ (r ++ woven rs (tail fillings))
+unfoldable laterFilled : List (List ℕ) → List (List ℕ) → List ℕ
+laterFilled [] fillings = []
+laterFilled (r ∷ rs) fillings = nextFilling fillings ++ (r ++ laterFilled rs (tail fillings))
 
--- a filled pattern is its first run, and its later runs so woven
-filled-woven : (text : List ℕ) (fillings : List (List ℕ)) → filled text fillings ≡ firstRun text ++ woven (laterRuns text) fillings
-unfolding filled firstRun laterRuns woven upTo
-filled-woven [] fillings = refl
-filled-woven (c ∷ text) fillings =
-    split (isStar c) (λ e. rw e (ap (λ (x : List ℕ). nextFilling fillings ++ x) (filled-woven text (tail fillings))))
-    (λ e. rw e (ap (λ (x : List ℕ). c ∷ x) (filled-woven text fillings)))
+-- a filled pattern is its first run, and its later runs so filled
+filled-runs : (text : List ℕ) (fillings : List (List ℕ)) → filled text fillings ≡ firstRun text ++ laterFilled (laterRuns text) fillings
+unfolding filled firstRun laterRuns laterFilled upTo
+filled-runs [] fillings = refl
+filled-runs (c ∷ text) fillings =
+    split (isStar c) (λ e. rw e (ap (λ (x : List ℕ). nextFilling fillings ++ x) (filled-runs text (tail fillings))))
+    (λ e. rw e (ap (λ (x : List ℕ). c ∷ x) (filled-runs text fillings)))
 
 -- some filling of the later runs gives a beginning of t, or all of it where there is an end mark
 record Given (endMark : Bool) (rs : List (List ℕ)) (t : List ℕ) : Type 0 where
   fillings : List (List ℕ)
   rest : List ℕ
-  gives : woven rs fillings ++ rest ≡ t
+  gives : laterFilled rs fillings ++ rest ≡ t
   whole : endMark ≡ true → rest ≡ []
 
 module _ (endMark : Bool) where
   -- one run more, behind the filling f
   given-more : (r : List ℕ) (rs : List (List ℕ)) (f t u : List ℕ) → t ≡ f ++ (r ++ u) → Given endMark rs u → Given endMark (r ∷ rs) t
-  unfolding woven
+  unfolding laterFilled
   given-more r rs f t u p g =
       record { fillings = f ∷ g .fillings; rest = g .rest; gives = simp append-assoc (rw (g .gives) (sym p)); whole = g .whole }
 
   -- where the later runs stand behind a, some filling of them gives what is left of the path
   stand-given : (rs : List (List ℕ)) (ks path a t : List ℕ) → path ≡ a ++ t → Stand endMark (length a) rs ks path → Given endMark rs t
-  unfolding Stand woven
+  unfolding Stand laterFilled
   stand-given [] [] path a t p h =
       let none : endMark ≡ true → t ≡ [] = λ e. drop-of-length-le t {i = 0} (omega (arith, h e, ap length p, length-append a t)) in
       record { fillings = []; rest = t; gives = refl; whole = none }
@@ -92,12 +92,12 @@ module _ (endMark : Bool) where
 
   -- and where some filling gives it, the later runs stand behind a
   given-stand : (rs : List (List ℕ)) (path a t : List ℕ) → path ≡ a ++ t → Given endMark rs t → (ks : List ℕ) × Stand endMark (length a) rs ks path
-  unfolding Stand woven
+  unfolding Stand laterFilled
   given-stand [] path a t p g =
       ([], λ e. omega (arith, ap length p, length-append a t, ap length (g .gives), ap length (g .whole e)))
   given-stand (r ∷ rs) path a t p g =
       let b = a ++ nextFilling (g .fillings) in
-      let u = woven rs (tail (g .fillings)) ++ g .rest in
+      let u = laterFilled rs (tail (g .fillings)) ++ g .rest in
       let whole : path ≡ b ++ (r ++ u) = p ∙ rw (← g .gives) (simp append-assoc) in
       let less : Given endMark rs u = record { fillings = tail (g .fillings); rest = g .rest; gives = refl; whole = g .whole } in
       let (ks, h) = given-stand rs path (b ++ r) u (whole ∙ sym (append-assoc b r u)) less in
@@ -116,7 +116,7 @@ stand-matches s path (j ∷ js) (z, (l, o, h)) =
     record {
       fillings = g .fillings;
       rest = g .rest;
-      gives = rw (filled-woven (s .text) (g .fillings), append-assoc, g .gives) (sym begins);
+      gives = rw (filled-runs (s .text) (g .fillings), append-assoc, g .gives) (sym begins);
       whole = g .whole;
     }
 
@@ -125,8 +125,8 @@ pub matches-stand : (s : Shape) (path : List ℕ) → Matches s path → (ks : L
 unfolding Stand
 matches-stand s path m =
     let r = firstRun (s .text) in
-    let u = woven (laterRuns (s .text)) (m .fillings) ++ m .rest in
-    let p : path ≡ r ++ u = sym (m .gives) ∙ rw (filled-woven (s .text) (m .fillings), append-assoc) in
+    let u = laterFilled (laterRuns (s .text)) (m .fillings) ++ m .rest in
+    let p : path ≡ r ++ u = sym (m .gives) ∙ rw (filled-runs (s .text) (m .fillings), append-assoc) in
     let g : Given (s .endMark) (laterRuns (s .text)) u = record { fillings = m .fillings; rest = m .rest; gives = refl; whole = m .whole } in
     let (ks, h) = given-stand (s .endMark) (laterRuns (s .text)) path r u p g in
     let size : 0 + length r ≡ length r = omega arith in

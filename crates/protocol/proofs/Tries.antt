@@ -13,7 +13,7 @@ use Rattle.protocol.specs.declared.Tried.{Tried}
 use Rattle.protocol.specs.declared.Walked.{Walked}
 use Rattle.protocol.specs.Walk.{tried, failed, placed, tryAt, seek}
 
--- a number is at most its own multiple
+-- a number is at most its product with one that is no smaller
 pub le-times : (a b : ℕ) → a ≤ b → a ≤ a * b
 le-times zero b h = omega arith
 le-times (suc a) zero h = absurd (omega arith)

@@ -37,3 +37,7 @@ firstRun text = upTo isStar text
 unfoldable pub laterRuns : List ℕ → List (List ℕ)
 laterRuns [] = []
 laterRuns (c ∷ text) = (if isStar c then firstRun text ∷ [] else []) ++ laterRuns text
+
+-- all of them, the first one first
+abbrev pub runs : Shape → List (List ℕ)
+runs s = firstRun (s .text) ∷ laterRuns (s .text)

@@ -6,12 +6,8 @@ use mathlib.Core.List.{List, [], _∷_}
 use lib.ListN.{length}
 use Rattle.lists.specs.Occurs.{Occurs}
 use Rattle.protocol.specs.declared.Walked.{Walked}
-use Rattle.protocol.specs.Pattern.{Shape, firstRun, laterRuns}
+use Rattle.protocol.specs.Pattern.{Shape, firstRun, laterRuns, runs}
 use Rattle.protocol.specs.Walk.{first, next, isLast}
-
--- all runs of a pattern, the first one first
-abbrev pub runs : Shape → List (List ℕ)
-runs s = firstRun (s .text) ∷ laterRuns (s .text)
 
 -- the start of the run r, where the walk w ends behind it
 abbrev pub startOf : List ℕ → Walked → ℕ

@@ -20,7 +20,7 @@ pub extern "C" fn robots_match_refusal(pattern: &[u8], path: &[u8]) -> usize
 }
 
 // 1 where the pattern matches the path, and 0 where it doesn't or the match is refused. Not refused, it is 1 exactly where some filling of the
-// stars gives the path or its beginning.
+// stars gives a beginning of the path, or all of it where there is an end mark.
 #[no_mangle]
 pub extern "C" fn robots_match_found(pattern: &[u8], path: &[u8]) -> usize
     ensures { λ r. ⌜ r ≡ foundNumber (matchOf (now (pattern .entry)) (now (path .entry)) .found) ⌝ }
@@ -30,7 +30,8 @@ pub extern "C" fn robots_match_found(pattern: &[u8], path: &[u8]) -> usize
     if answer.found { 1 } else { 0 }
 }
 
-// The pairs of octets that the leftmost walk compares, at most the pattern's weight times the octets of the normalised path.
+// The pairs of octets that the leftmost walk compares, at most the pattern's weight times the octets of the normalised path. 0 where the match is
+// refused.
 #[no_mangle]
 pub extern "C" fn robots_match_compared(pattern: &[u8], path: &[u8]) -> usize
     ensures { λ r. ⌜ r ≡ matchOf (now (pattern .entry)) (now (path .entry)) .compared ⌝ }

@@ -99,8 +99,8 @@ scratch-kept endMark (r ∷ rs) path w scratch e =
     ∙ scratch-kept endMark rs path w scratch e
 
 -- what the walk comes to from the rest t of a text on, where it stands at w, and what it leaves in the scratch
-abbrev pub left : Bool → List ℕ → List ℕ → Walked → List ℕ → Walked × List ℕ
-left endMark t path w scratch = (later endMark (runsOf t) path w, scratchLater endMark (laterRuns t) path w scratch)
+abbrev pub outcomeFrom : Bool → List ℕ → List ℕ → Walked → List ℕ → Walked × List ℕ
+outcomeFrom endMark t path w scratch = (later endMark (runsOf t) path w, scratchLater endMark (laterRuns t) path w scratch)
 
 -- two such outcomes are equal part by part
 pub both : {p q : Walked × List ℕ} → p ≡ q → (p .0 ≡ q .0) × (p .1 ≡ q .1)
@@ -108,13 +108,13 @@ both e = (ap (λ (p : Walked × List ℕ). p .0) e, ap (λ (p : Walked × List �
 
 -- the whole walk, a turn of it, and its ends
 module _ (endMark : Bool) (text path : List ℕ) where
-  abbrev pub whole : List ℕ → Walked × List ℕ
-  whole scratch = (walkText endMark text path, scratchText endMark text path scratch)
+  abbrev pub outcome : List ℕ → Walked × List ℕ
+  outcome scratch = (walkText endMark text path, scratchText endMark text path scratch)
 
   -- after the first run, which ends at e
   pub walk-start : (e : ℕ) (last : Bool) (w : Walked) (scratch m : List ℕ) → RunEnd text 0 e → last ≡ (endMark && eqb e (length text))
       → w ≡ first last (normalRun (take e text)) path → m ≡ runScratch (take e text) scratch
-      → left endMark (drop e text) path w m ≡ whole scratch
+      → outcomeFrom endMark (drop e text) path w m ≡ outcome scratch
   unfolding walkText scratchText walkRuns
   walk-start e last w scratch m x last-is w-is m-is =
       let run : take e text ≡ firstRun text = rw sub-zero at (x .run) in
@@ -124,16 +124,16 @@ module _ (endMark : Bool) (text path : List ℕ) where
   pub walk-turn : (e f : ℕ) (last : Bool) (w v : Walked) (scratch m : List ℕ) → e < length text → isStar (getD text e 0) ≡ true → w .stood ≡ true
       → RunEnd text (e + 1) f → last ≡ (endMark && eqb f (length text))
       → v ≡ next last (normalRun (take (f - (e + 1)) (drop (e + 1) text))) path w → m ≡ runScratch (take (f - (e + 1)) (drop (e + 1) text)) scratch
-      → left endMark (drop f text) path v m ≡ left endMark (drop e text) path w scratch
+      → outcomeFrom endMark (drop f text) path v m ≡ outcomeFrom endMark (drop e text) path w scratch
   walk-turn e f last w v scratch m l h s x last-is v-is m-is =
       let r = firstRun (drop (e + 1) text) in
       let rs = laterRuns (drop (e + 1) text) in
       rw (v-is, m-is, last-is, x .run, ← runs-last endMark text (e + 1) f x, ← x .more, runs-some text e l h, later-reached endMark r rs path w scratch, scratch-reached endMark r rs path w scratch s)
 
-  pub walk-over : (e : ℕ) (w : Walked) (scratch : List ℕ) → length text ≤ e → left endMark (drop e text) path w scratch ≡ (w, scratch)
+  pub walk-over : (e : ℕ) (w : Walked) (scratch : List ℕ) → length text ≤ e → outcomeFrom endMark (drop e text) path w scratch ≡ (w, scratch)
   unfolding later scratchLater
   walk-over e w scratch l = rw (runs-none text e l)
 
-pub walk-kept : (endMark : Bool) (t path : List ℕ) (w : Walked) (scratch : List ℕ) → w .stood ≡ false → left endMark t path w scratch ≡ (w, scratch)
+pub walk-kept : (endMark : Bool) (t path : List ℕ) (w : Walked) (scratch : List ℕ) → w .stood ≡ false → outcomeFrom endMark t path w scratch ≡ (w, scratch)
 walk-kept endMark t path w scratch e =
     rw (later-kept endMark (runsOf t) path w e, scratch-kept endMark (laterRuns t) path w scratch e)

@@ -39,7 +39,7 @@ module _ (pattern path : List ℕ) where
 
   -- what is known where nothing is refused
   module _ (h : matchRefusal pattern path ≡ 0) where
-    pub short-pattern : length pattern ≤ 512_000
+    short-pattern : length pattern ≤ 512_000
     short-pattern =
         split (leb (length pattern) 512_000)
         (λ e. leb-true _ _ e)

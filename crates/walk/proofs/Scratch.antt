@@ -21,11 +21,10 @@ use Rattle.normal.specs.Runs.{normalRun, runOf, runScratch}
 pub front-read : (v memory l : List ℕ) (n : ℕ) → n ≡ length v → l ≡ atFront v memory → take n l ≡ v
 front-read v memory l n h e = rw (h, e) (take-append-seam v _)
 
--- the run fits, and is read where it was written
-pub record Fits (run scratch : List ℕ) (n : ℕ) : Type 0 where
-  pub size : length (normalRun run) ≡ n
-  pub room : n ≤ length scratch
-  pub read : take n (runScratch run scratch) ≡ normalRun run
+-- a run that fits: the first n octets of the memory m are its own
+pub record Fits (run m : List ℕ) (n : ℕ) : Type 0 where
+  pub room : n ≤ length m
+  pub read : take n m ≡ normalRun run
 
 -- what `runOf` tells, as a test and as a number
 abbrev fitted : Written → Bool
@@ -45,13 +44,15 @@ module _ (run scratch : List ℕ) where
   unfolding runOf
   octets-run f = rw f
 
-  pub run-fits : (n : ℕ) → runOf run scratch ≡ Written.Octets n → Fits run scratch n
+  pub run-fits : (n : ℕ) (m : List ℕ) → runOf run scratch ≡ Written.Octets n → m ≡ runScratch run scratch → length m ≡ length scratch → Fits run m n
   unfolding runScratch
-  run-fits n e =
+  run-fits n m e m-is kept =
       let f : leb (length (normalRun run)) (length scratch) ≡ true = sym fitted-run ∙ ap fitted e in
-      let q : length (normalRun run) ≡ n = sym (octets-run f) ∙ ap octetsOf e in
-      let l : length (normalRun run) ≤ length scratch = leb-true _ _ f in
-      record { size = q; room = rw q at l; read = front-read (normalRun run) scratch _ n (sym q) (rw f) }
+      let q : n ≡ length (normalRun run) = sym (ap octetsOf e) ∙ octets-run f in
+      record {
+        room = omega (arith, q, leb-true (length (normalRun run)) (length scratch) f, kept);
+        read = front-read (normalRun run) scratch m n q (m-is ∙ rw f);
+      }
 
   pub run-outgrows : runOf run scratch ≡ Written.NoRoom → length scratch < length (normalRun run)
   run-outgrows e = leb-false _ _ (sym fitted-run ∙ ap fitted e)

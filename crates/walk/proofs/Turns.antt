@@ -9,7 +9,7 @@ use lib.ListN.{length, drop, getD, length-drop, drop-of-length-le}
 use borrow.Author.Tests.{eq-eqb, ne-eqb, eqb-true, eqb-false}
 use Rattle.lists.proofs.Bools.{split}
 use Rattle.lists.proofs.Scans.{drop-one}
-use Rattle.protocol.specs.Walk.{tried, failed, placed, seek}
+use Rattle.protocol.specs.Walk.{tried, failed, seek}
 use Rattle.protocol.proofs.Tries.{tried-same, tried-other, tried-more, tried-fails, seek-out, seek-here, seek-on, seek-more}
 
 -- a comparison at the index i of a run and of what it is compared with
@@ -51,8 +51,9 @@ module _ (r path : List ℕ) (k n : ℕ) where
     pub search-counts : tried r (drop k path) n .count ≤ seek r k n (drop k path) .count
     search-counts = seek-counts r k n (drop k path) (simp length-drop l)
 
-    pub search-here : tried r (drop k path) n .stood ≡ true → seek r k n (drop k path) ≡ placed (length r) k (tried r (drop k path) n)
-    search-here e = rw e (seek-here r k n (drop k path) (simp length-drop l) e)
+    pub search-here : tried r (drop k path) n .stood ≡ true
+        → seek r k n (drop k path) ≡ record { stood = true; past = k + length r; count = tried r (drop k path) n .count }
+    search-here e = seek-here r k n (drop k path) (simp length-drop l) e
 
     pub search-room : tried r (drop k path) n .stood ≡ false → k < length path
     search-room e = omega (arith, tried-fails r (drop k path) n e)

@@ -9,9 +9,9 @@ use Rattle.protocol.specs.Walk.{walk}
 use Rattle.walk.specs.Weights.{weighed}
 
 module _ (pattern path : List ℕ) (w : Walked) (h : w ≡ walk (shapeOf pattern) path) where
-  pub weighed-lost : w .stood ≡ false → record { found = false; weight = 0; compared = w .count } ≡ weighed pattern path
+  pub weighed-not-found : w .stood ≡ false → record { found = false; weight = 0; compared = w .count } ≡ weighed pattern path
   unfolding weighed
-  weighed-lost e = rw (← h, e)
+  weighed-not-found e = rw (← h, e)
 
   pub weighed-found : (n : ℕ) → w .stood ≡ true → n ≡ weight (shapeOf pattern) → record { found = true; weight = n; compared = w .count } ≡ weighed pattern path
   unfolding weighed

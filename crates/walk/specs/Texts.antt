@@ -23,9 +23,12 @@ scratchLater endMark [] path w scratch = scratch
 scratchLater endMark (r ∷ rs) path w scratch =
     scratchLater endMark rs path (next (isLast endMark rs) (normalRun r) path w) (if w .stood then runScratch r scratch else scratch)
 
+-- the scratch after all runs of a raw text
 unfoldable pub scratchText : Bool → List ℕ → List ℕ → List ℕ → List ℕ
 scratchText endMark text path scratch =
-    scratchLater endMark (laterRuns text) path (first (isLast endMark (laterRuns text)) (normalRun (firstRun text)) path) (runScratch (firstRun text) scratch)
+    let r = firstRun text in
+    let rs = laterRuns text in
+    scratchLater endMark rs path (first (isLast endMark rs) (normalRun r) path) (runScratch r scratch)
 
 -- the scratch after the walk of a raw pattern
 unfoldable pub walkScratch : List ℕ → List ℕ → List ℕ → List ℕ

@@ -1,13 +1,14 @@
 // The answer to: match one pattern against one path.
 
 ghost use mathlib.Core.Path.{_≡_};
-ghost use Prim.Native.Nat.{_*_, _≤_, _<_, _^_};
+ghost use Prim.Native.Nat.{_≤_};
 ghost use lib.ListN.{length};
 ghost use Rattle.protocol.specs.Normal.{normalPath};
-ghost use Rattle.protocol.specs.Pattern.{shapeOf, weight};
+ghost use Rattle.protocol.specs.Pattern.{shapeOf};
 ghost use Rattle.protocol.specs.Walk.{walk};
 ghost use Rattle.protocol.specs.Refusals.{matchRefusal};
 ghost use Rattle.protocol.specs.Answers.{matchOf};
+ghost use Rattle.walk.specs.Weights.{CountFits};
 use protocol::Matched;
 use protocol::Walked;
 
@@ -29,7 +30,7 @@ pub fn match_refusal(pattern: &[u8], path: &[u8]) -> usize
 
 // Normalises the path into the buffer, and walks the pattern over it.
 fn walk_in(pattern: &[u8], path: &[u8], buffer: &mut [u8], scratch: &mut [u8]) -> Walked
-    requires { ⌜ (length (normalPath (now path)) ≤ length (now buffer)) × (length (normalPath (now path)) ≤ length (now scratch)) × (weight (shapeOf (now pattern)) * length (normalPath (now path)) < 2 ^ 64) ⌝ }
+    requires { ⌜ (length (normalPath (now path)) ≤ length (now buffer)) × (length (normalPath (now path)) ≤ length (now scratch)) × CountFits (now pattern) (normalPath (now path)) ⌝ }
     ensures { λ r. ⌜ r ≡ walk (shapeOf (now (pattern .entry))) (normalPath (now (path .entry))) ⌝ }
 {
     let n = normal::write(false, path, buffer);
@@ -38,7 +39,7 @@ fn walk_in(pattern: &[u8], path: &[u8], buffer: &mut [u8], scratch: &mut [u8]) -
 
 // Room for a normalised path of at most 384 octets: to clear more would take longer than most walks.
 fn walk_short(pattern: &[u8], path: &[u8]) -> Walked
-    requires { ⌜ (length (normalPath (now path)) ≤ 384) × (weight (shapeOf (now pattern)) * length (normalPath (now path)) < 2 ^ 64) ⌝ }
+    requires { ⌜ (length (normalPath (now path)) ≤ 384) × CountFits (now pattern) (normalPath (now path)) ⌝ }
     ensures { λ r. ⌜ r ≡ walk (shapeOf (now (pattern .entry))) (normalPath (now (path .entry))) ⌝ }
 {
     let mut buffer = [0u8; 384];
@@ -48,7 +49,7 @@ fn walk_short(pattern: &[u8], path: &[u8]) -> Walked
 
 // Room for the longest normalised path.
 fn walk_long(pattern: &[u8], path: &[u8]) -> Walked
-    requires { ⌜ (length (normalPath (now path)) ≤ 6142) × (weight (shapeOf (now pattern)) * length (normalPath (now path)) < 2 ^ 64) ⌝ }
+    requires { ⌜ (length (normalPath (now path)) ≤ 6142) × CountFits (now pattern) (normalPath (now path)) ⌝ }
     ensures { λ r. ⌜ r ≡ walk (shapeOf (now (pattern .entry))) (normalPath (now (path .entry))) ⌝ }
 {
     let mut buffer = [0u8; 6142];

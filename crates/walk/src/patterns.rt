@@ -3,14 +3,14 @@
 
 ghost use mathlib.Core.Path.{_≡_};
 ghost use mathlib.Core.Bool.{true, _&&_};
-ghost use Prim.Native.Nat.{_*_, _≤_, _<_, _^_};
+ghost use Prim.Native.Nat.{_≤_, _<_, _^_};
 ghost use lib.ListN.{length};
 ghost use lib.Dec.{eqb};
 ghost use Rattle.protocol.specs.Pattern.{shapeOf, weight};
 ghost use Rattle.protocol.specs.Walk.{first, next, walk};
 ghost use Rattle.normal.specs.Runs.{normalRun, runScratch};
 ghost use Rattle.walk.specs.Texts.{walkText, scratchText, walkScratch};
-ghost use Rattle.walk.specs.Weights.{weighed};
+ghost use Rattle.walk.specs.Weights.{CountFits, weighed};
 use normal::Written;
 use protocol::Walked;
 
@@ -84,7 +84,7 @@ fn walk_text(text: &[u8], marked: bool, path: &[u8], scratch: &mut [u8]) -> Walk
 
 // The walk of a raw pattern.
 pub fn walk_pattern(pattern: &[u8], path: &[u8], scratch: &mut [u8]) -> Walked
-    requires { ⌜ (length (now path) ≤ length (now scratch)) × (weight (shapeOf (now pattern)) * length (now path) < 2 ^ 64) ⌝ }
+    requires { ⌜ (length (now path) ≤ length (now scratch)) × CountFits (now pattern) (now path) ⌝ }
     ensures { λ r. ⌜ r ≡ walk (shapeOf (now (pattern .entry))) (now (path .entry)) ⌝ }
     ensures { λ _. ⌜ now (scratch .exit) ≡ walkScratch (now (pattern .entry)) (now (path .entry)) (now (scratch .entry)) ⌝ }
 {
@@ -95,7 +95,7 @@ pub fn walk_pattern(pattern: &[u8], path: &[u8], scratch: &mut [u8]) -> Walked
 
 // A pattern's match, weight and count, out of one walk.
 pub fn weigh(pattern: &[u8], path: &[u8], scratch: &mut [u8]) -> Weighed
-    requires { ⌜ (length (now path) ≤ length (now scratch)) × (weight (shapeOf (now pattern)) < 2 ^ 64) × (weight (shapeOf (now pattern)) * length (now path) < 2 ^ 64) ⌝ }
+    requires { ⌜ (length (now path) ≤ length (now scratch)) × (weight (shapeOf (now pattern)) < 2 ^ 64) × CountFits (now pattern) (now path) ⌝ }
     ensures { λ r. ⌜ r ≡ weighed (now (pattern .entry)) (now (path .entry)) ⌝ }
     ensures { λ _. ⌜ now (scratch .exit) ≡ walkScratch (now (pattern .entry)) (now (path .entry)) (now (scratch .entry)) ⌝ }
 {

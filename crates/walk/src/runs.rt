@@ -64,7 +64,12 @@ fn seek_run(run: &[u8], path: &[u8], from: usize, before: usize) -> Walked
     while run.len() <= path.len() - at {
         let t = compare(run, &path[at..], count);
         if t.stood {
-            return place_run(run.len(), at, t);
+            let past = at + run.len();
+            return Walked {
+                stood: true,
+                past,
+                count: t.count,
+            };
         }
         count = t.count;
         at += 1;

@@ -3,6 +3,8 @@
 
 use evaluator::{LineKind, Matched};
 
+use crate::texts::MOST_NORMALISED;
+
 /// Memory of exactly these octets, so that a read past the last one is a read
 /// past an allocation.
 pub fn exact(octets: &[u8]) -> Box<[u8]> {
@@ -127,7 +129,7 @@ pub fn check_path(path: &[u8]) {
 
 /// The octets that the evaluator writes into a large buffer.
 fn normal_length(path: &[u8]) -> usize {
-    let mut buffer = [0; 6_142];
+    let mut buffer = [0; MOST_NORMALISED];
     evaluator::normalise(path, &mut buffer).written
 }
 
@@ -172,6 +174,12 @@ pub fn check_match(pattern: &[u8], path: &[u8]) -> Matched {
     answer
 }
 
+/// Library and evaluator answer this.
+fn check_answer(pattern: &[u8], path: &[u8], expected: Matched) {
+    let answer = check_match(pattern, path);
+    assert_eq!(answer, expected, "{}", both_shown(pattern, path));
+}
+
 /// Library and evaluator give this match.
 pub fn check_walk(pattern: &[u8], path: &[u8], found: bool, compared: usize) {
     let expected = Matched {
@@ -179,8 +187,7 @@ pub fn check_walk(pattern: &[u8], path: &[u8], found: bool, compared: usize) {
         found,
         compared,
     };
-    let answer = check_match(pattern, path);
-    assert_eq!(answer, expected, "{}", both_shown(pattern, path));
+    check_answer(pattern, path, expected);
 }
 
 /// Library and evaluator refuse: "A refused match is "no" with count 0".
@@ -190,13 +197,5 @@ pub fn check_refused_match(pattern: &[u8], path: &[u8], refusal: usize) {
         found: false,
         compared: 0,
     };
-    let answer = check_match(pattern, path);
-    assert_eq!(answer, expected, "{}", both_shown(pattern, path));
-}
-
-/// "/" and then one octet again and again.
-pub fn slash_and(octet: u8, length: usize) -> Vec<u8> {
-    let mut text = vec![octet; length];
-    text[0] = b'/';
-    text
+    check_answer(pattern, path, expected);
 }

@@ -3,17 +3,7 @@
 use evaluator::LineKind;
 
 use crate::ask::{self, check_line, check_path, check_room, filling, shown};
-
-const MOST_LINE: usize = 512_000;
-const MOST_PATH: usize = 2_048;
-const MOST_NORMALISED: usize = 6_142;
-
-/// The beginning, and then one octet again and again.
-fn lengthened(beginning: &[u8], octet: u8, length: usize) -> Vec<u8> {
-    let mut text = beginning.to_vec();
-    text.resize(length, octet);
-    text
-}
+use crate::texts::{lengthened, slash_and, surrounded, MOST_LINE, MOST_NORMALISED, MOST_PATH};
 
 fn told(refusal: usize, kind: usize, place: usize, length: usize) -> LineKind {
     LineKind {
@@ -41,9 +31,9 @@ fn the_longest_line() {
         ("", b'\n', told(9, 0, 0, 0)),
         ("allow:/x#", b'\r', told(9, 0, 0, 0)),
     ] {
-        let line = lengthened(beginning.as_bytes(), octet, MOST_LINE);
+        let line = lengthened(beginning.as_bytes(), &[octet], b"", MOST_LINE);
         assert_eq!(check_line(&line), expected, "{beginning} and {octet:#04X}");
-        let line = lengthened(beginning.as_bytes(), octet, MOST_LINE + 1);
+        let line = lengthened(beginning.as_bytes(), &[octet], b"", MOST_LINE + 1);
         let refused = told(1, 0, 0, 0);
         assert_eq!(check_line(&line), refused, "{beginning} and {octet:#04X}");
     }
@@ -54,7 +44,7 @@ fn the_longest_line() {
 fn the_last_octet_of_the_longest_line() {
     for beginning in ["", "x", "allow:/", "user-agent:a", "allow:/#"] {
         let octet = if beginning.is_empty() { b' ' } else { b'a' };
-        let mut line = lengthened(beginning.as_bytes(), octet, MOST_LINE);
+        let mut line = lengthened(beginning.as_bytes(), &[octet], b"", MOST_LINE);
         for last in *b"\r\n#: \t\xC3\x80\x7Fa" {
             line[MOST_LINE - 1] = last;
             check_line(&line);
@@ -66,10 +56,10 @@ fn the_last_octet_of_the_longest_line() {
 #[test]
 fn the_longest_path() {
     for octet in *b"a%*$\xFF/" {
-        let path = lengthened(b"/", octet, MOST_PATH);
+        let path = slash_and(octet, MOST_PATH);
         check_path(&path);
         assert_eq!(check_room(&path, MOST_NORMALISED), 0, "{}", shown(&path));
-        let path = lengthened(b"/", octet, MOST_PATH + 1);
+        let path = slash_and(octet, MOST_PATH + 1);
         check_path(&path);
         for room in [0, MOST_NORMALISED, 3 * MOST_NORMALISED] {
             assert_eq!(check_room(&path, room), 3, "{}", shown(&path));
@@ -81,7 +71,7 @@ fn the_longest_path() {
 /// normalised length. One more octet, or one less of buffer, is refused."
 #[test]
 fn the_longest_normalised_path() {
-    let path = lengthened(b"/", b'%', MOST_PATH);
+    let path = slash_and(b'%', MOST_PATH);
     let answer = ask::normalise(&path, MOST_NORMALISED);
     let expected = [b"/".as_slice(), &b"%25".repeat(MOST_PATH - 1)].concat();
     assert_eq!(expected.len(), MOST_NORMALISED, "{}", shown(&path));
@@ -100,7 +90,7 @@ fn any_number_as_room() {
             let refusal = library::normalise_refusal(path.as_bytes(), room);
             assert_eq!(refusal, expected, "{path} with room {room}");
         }
-        let path = lengthened(b"/", b'%', MOST_PATH);
+        let path = slash_and(b'%', MOST_PATH);
         assert_eq!(library::normalise_refusal(&path, room), 0, "room {room}");
     }
 }
@@ -122,12 +112,6 @@ fn memory_around_the_buffer_stays() {
             }
         }
     }
-}
-
-/// The text inside larger memory, behind `start` octets.
-fn surrounded(text: &str, before: &str, after: &str, start: usize) -> Vec<u8> {
-    let front = "a".repeat(start - before.len());
-    format!("{front}{before}{text}{after}").into_bytes()
 }
 
 /// What could be taken for a part of a line or a path, before and behind it.

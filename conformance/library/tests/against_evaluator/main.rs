@@ -11,4 +11,5 @@ mod path_octets;
 mod pattern_octets;
 mod small_patterns;
 mod source_examples;
+mod texts;
 mod walks;

@@ -2,22 +2,8 @@
 
 use std::thread;
 
-use crate::ask::{
-    both_shown, check_match, check_refused_match, check_walk, match_in_place, slash_and,
-};
-
-const MOST_PATTERN: usize = 512_000;
-const MOST_PATH: usize = 2_048;
-const MOST_NORMALISED: usize = 6_142;
-
-/// The beginning, then the block again and again, then the end: exactly
-/// `length` octets.
-fn lengthened(beginning: &[u8], block: &[u8], end: &[u8], length: usize) -> Vec<u8> {
-    let middle = length - beginning.len() - end.len();
-    let blocks = block.iter().cycle().take(middle).copied();
-    let text: Vec<u8> = beginning.iter().copied().chain(blocks).collect();
-    [text.as_slice(), end].concat()
-}
+use crate::ask::{both_shown, check_match, check_refused_match, check_walk, match_in_place};
+use crate::texts::{lengthened, slash_and, surrounded, MOST_NORMALISED, MOST_PATH, MOST_PATTERN};
 
 /// A pattern of 512,000 octets is answered, and one of the same form with one
 /// octet more isn't: "file, pattern or line longer than 512,000 octets".
@@ -180,11 +166,8 @@ fn memory_around_pattern_and_path_is_unseen() {
     for (before, after) in NEIGHBOURS {
         for start in before.len()..before.len() + 8 {
             for (pattern, path) in pairs(&texts) {
-                let memory = |text: &str| {
-                    let front = "a".repeat(start - before.len());
-                    format!("{front}{before}{text}{after}").into_bytes()
-                };
-                let (around_pattern, around_path) = (memory(pattern), memory(path));
+                let around_pattern = surrounded(pattern, before, after, start);
+                let around_path = surrounded(path, before, after, start);
                 let answer = match_in_place(
                     &around_pattern[start..start + pattern.len()],
                     &around_path[start..start + path.len()],

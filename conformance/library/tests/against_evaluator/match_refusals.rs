@@ -1,10 +1,8 @@
 //! Every refusal of a match, alone and with each of the others. "Each entry
 //! tests the conditions that concern it, the smallest number first".
 
-use crate::ask::{check_refused_match, check_walk, slash_and};
-
-const MOST_PATTERN: usize = 512_000;
-const MOST_PATH: usize = 2_048;
+use crate::ask::{check_refused_match, check_walk};
+use crate::texts::{slash_and, MOST_PATH, MOST_PATTERN};
 
 /// Inputs with their number; `None` if nothing is wrong with them.
 type Inputs = Vec<(Vec<u8>, Option<usize>)>;

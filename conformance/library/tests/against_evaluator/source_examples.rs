@@ -4,6 +4,7 @@
 use examples::{Expected, Question};
 
 use crate::ask;
+use crate::texts::MOST_NORMALISED;
 
 /// How many rows ask for a normalised path, for a line's kind, and for a
 /// match.
@@ -21,7 +22,7 @@ fn every_example_of_normalising() {
             continue;
         };
         rows += 1;
-        for room in [expected.octets.len(), 6_142] {
+        for room in [expected.octets.len(), MOST_NORMALISED] {
             let answer = ask::normalise(path, room);
             let message = format!("{}: {} with room {room}", row.id, ask::shown(path));
             assert_eq!(answer.refusal, expected.refusal, "{message}");

@@ -1,9 +1,8 @@
 -- `walk::patterns::later_raw` meets its contract. Assumes nothing.
 use Prim.Native.Nat.{ℕ}
-use mathlib.Core.Path.{_≡_, sym, ap, _∙_}
+use mathlib.Core.Path.{sym, ap, _∙_}
 use mathlib.Core.List.{List}
 use native.Mathlib.Omega.{arith}
-use lib.ListN.{take}
 use lib.Seq.{length-take-le}
 use borrow.Author.Needs.{needs}
 use Rattle.normal.specs.Runs.{normalRun}
@@ -21,31 +20,24 @@ enum-known-n c = search needs
 -- the run in the scratch
 fits : (c : tie.After-known-told)
     → let s = c .before .before .before .before .before in
-    let a = s .before .before .before .before .before .args in
-    Fits (a .run .now) (a .scratch .now) (c .before .n .given .0 .0)
+    Fits (s .before .before .before .before .before .args .run .now) (s .normalise-run .last .1 .0) (c .before .n .given .0 .0)
 fits c =
     let s = c .before .before .before .before .before in
     let a = s .before .before .before .before .before .args in
-    run-fits (a .run .now) (a .scratch .now) (c .before .n .given .0 .0) (sym (s .normalise-run .ensures .0) ∙ c .before .n .given .1)
-
--- the octets that are lent are the run's
-tried-run : (c : tie.After-known-told)
-    → let s = c .before .before .before .before .before in
-    take (c .before .n .given .0 .0) (s .normalise-run .last .1 .0) ≡ normalRun (s .before .before .before .before .before .args .run .now)
-tried-run c = ap (take (c .before .n .given .0 .0)) (c .before .before .before .before .before .normalise-run .ensures .1) ∙ fits c .read
+    let r = s .normalise-run in
+    run-fits (a .run .now) (a .scratch .now) (c .before .n .given .0 .0) (r .last .1 .0) (sym (r .ensures .0) ∙ c .before .n .given .1) (r .ensures .1) (r .kept .1 .0)
 
 slice-reshare-prefix-later-run : tie.Need-slice-reshare-prefix-later-run
-slice-reshare-prefix-later-run c =
-    omega (arith, fits c .room, c .before .before .before .before .before .normalise-run .kept .1 .0)
+slice-reshare-prefix-later-run c = fits c .room
 
 slice-aggregate-later-run : tie.Need-slice-aggregate-later-run
-slice-aggregate-later-run c = sym (length-take-le _ _ (slice-reshare-prefix-later-run (c .before)))
+slice-aggregate-later-run c = sym (length-take-le _ _ (fits (c .before) .room))
 
 later-run-requires : tie.Need-later-run-requires
 later-run-requires c κs =
     let s = c .before .before .before .before .before .before in
     let p = s .before .before .before .before .before .pre in
-    rw (tried-run (c .before)) (p .1, p .2, p .3)
+    rw (fits (c .before) .read) (p .1, p .2, p .3)
 
 enum-told : tie.Need-enum-told
 enum-told c = search needs
@@ -61,7 +53,7 @@ returns c =
     let t = c .before .before in
     let s = t .before .before .before .before .before in
     let a = s .before .before .before .before .before .args in
-    (c .later-run .ensures ∙ ap (λ (r : List ℕ). next (a .last) r (a .path .now) (a .w)) (tried-run t), s .normalise-run .ensures .1)
+    (c .later-run .ensures ∙ ap (λ (r : List ℕ). next (a .last) r (a .path .now) (a .w)) (fits t .read), s .normalise-run .ensures .1)
 
 same-length-2 : tie.Need-same-length-2
 same-length-2 c = search needs

@@ -1,7 +1,6 @@
 -- `walk::patterns::walk_pattern` meets its contract: the count fits, since it is at most the weight times the path's length. Assumes nothing.
 use mathlib.Core.Path.{_∙_}
 use native.Mathlib.Omega.{arith}
-use lib.ListN.{length}
 use borrow.Author.Needs.{needs}
 use Rattle.protocol.specs.Pattern.{shapeOf}
 use Rattle.protocol.proofs.Counted.{walk-bound}

@@ -16,7 +16,7 @@ use Rattle.protocol.proofs.Steps.{first-within, next-within}
 use Rattle.protocol.proofs.Counted.{later-costs}
 use Rattle.normal.specs.Runs.{normalRun, runScratch}
 use Rattle.walk.specs.Texts.{runsOf}
-use Rattle.walk.proofs.Cuts.{RunEnd, run-end, left, both, whole, walk-start, walk-turn, walk-over, walk-kept}
+use Rattle.walk.proofs.Cuts.{RunEnd, run-end, outcomeFrom, both, outcome, walk-start, walk-turn, walk-over, walk-kept}
 use Rattle.walk.proofs.patterns.walk_text.Statement.{statement}
 use Rattle.walk.proofs.patterns.walk_text.Tie as tie
 
@@ -26,7 +26,7 @@ Inv-loop text marked path scratch₀ end₀ w₀ scratch end w =
     × (w .past ≤ length path)
     × (length scratch ≡ length scratch₀)
     × (end < length text → isStar (getD text end 0) ≡ true)
-    × (left marked (drop end text) path w scratch ≡ left marked (drop end₀ text) path w₀ scratch₀)
+    × (outcomeFrom marked (drop end text) path w scratch ≡ outcomeFrom marked (drop end₀ text) path w₀ scratch₀)
 
 abbrev μ-loop : tie.MeasureT-loop
 μ-loop text marked path scratch₀ end₀ w₀ scratch end w = length text - end
@@ -54,8 +54,8 @@ begun : (c : tie.After-slice-known2 Inv-loop μ-loop)
     → let s = c .before .before in
     let f = s .before .before .before .before in
     let a = f .before .before .before .before .args in
-    left (a .marked) (drop (f .find .result) (a .text .now)) (a .path .now) (s .first-raw .result) (s .first-raw .last .1 .1 .1 .0)
-    ≡ whole (a .marked) (a .text .now) (a .path .now) (a .scratch .now)
+    outcomeFrom (a .marked) (drop (f .find .result) (a .text .now)) (a .path .now) (s .first-raw .result) (s .first-raw .last .1 .1 .1 .0)
+    ≡ outcome (a .marked) (a .text .now) (a .path .now) (a .scratch .now)
 begun c =
     let s = c .before .before in
     let f = s .before .before .before .before in
@@ -79,8 +79,8 @@ same c = c .loop .inv .2 ∙ c .before .before .before .first-raw .kept .1 .1 .1
 -- what is left gives the whole
 gives : (c : tie.At-loop Inv-loop μ-loop)
     → let a = c .before .before .before .before .before .before .before .before .before .before .before .args in
-    left (a .marked) (drop (c .loop .end) (a .text .now)) (a .path .now) (c .loop .w) (c .loop .scratch)
-    ≡ whole (a .marked) (a .text .now) (a .path .now) (a .scratch .now)
+    outcomeFrom (a .marked) (drop (c .loop .end) (a .text .now)) (a .path .now) (c .loop .w) (c .loop .scratch)
+    ≡ outcome (a .marked) (a .text .now) (a .path .now) (a .scratch .now)
 gives c = c .loop .inv .4 ∙ begun (c .before)
 
 same-length : tie.Need-same-length Inv-loop μ-loop
@@ -142,8 +142,8 @@ goes-on : (c : tie.After-is-last2 Inv-loop μ-loop) (v : Walked) (m : List ℕ)
     let f = k + c .before .before .find2 .result in
     v ≡ next (c .is-last2 .result) (normalRun (take (f - k) (drop k (a .text .now)))) (a .path .now) (s .loop .w)
     → m ≡ runScratch (take (f - k) (drop k (a .text .now))) (s .loop .scratch)
-    → left (a .marked) (drop f (a .text .now)) (a .path .now) v m
-    ≡ left (a .marked) (drop (s .loop .end) (a .text .now)) (a .path .now) (s .loop .w) (s .loop .scratch)
+    → outcomeFrom (a .marked) (drop f (a .text .now)) (a .path .now) v m
+    ≡ outcomeFrom (a .marked) (drop (s .loop .end) (a .text .now)) (a .path .now) (s .loop .w) (s .loop .scratch)
 goes-on c v m v-is m-is =
     let s = c .before .before .before .before .before .before .before in
     let a = s .before .before .before .before .before .before .before .before .before .before .before .args in

@@ -1,6 +1,6 @@
 -- `walk::patterns::weigh` meets its contract. Assumes nothing.
 use borrow.Author.Needs.{needs}
-use Rattle.walk.proofs.Weighing.{weighed-lost, weighed-found}
+use Rattle.walk.proofs.Weighing.{weighed-not-found, weighed-found}
 use Rattle.walk.proofs.patterns.weigh.Statement.{statement}
 use Rattle.walk.proofs.patterns.weigh.Tie as tie
 
@@ -28,7 +28,7 @@ returns-2 : tie.Need-returns-2
 returns-2 c =
     let w = c .before .before .before in
     let a = w .before .before .before .before .before .args in
-    (weighed-lost (a .pattern .now) (a .path .now) (w .walk-pattern .result) (w .walk-pattern .ensures .0) (c .if1 .left), w .walk-pattern .ensures .1)
+    (weighed-not-found (a .pattern .now) (a .path .now) (w .walk-pattern .result) (w .walk-pattern .ensures .0) (c .if1 .left), w .walk-pattern .ensures .1)
 
 pub weigh-spec : {M : Type 1} → statement M
 weigh-spec =

@@ -1,12 +1,13 @@
 -- `walk::runs::seek_run` meets its contract: the search from `at` on gives the whole search's outcome. Assumes nothing.
-use Prim.Native.Nat.{_≤_, _<_, _-_}
+use Prim.Native.Nat.{_+_, _-_, _≤_, _<_}
 use mathlib.Core.Path.{_≡_, refl, sym, ap, _∙_}
+use mathlib.Core.Bool.{true}
 use native.Mathlib.Omega.{arith}
 use lib.ListN.{length, drop, length-drop}
 use Rattle.lists.proofs.Scans.{rest-of}
 use Rattle.protocol.specs.declared.Tried.{Tried}
 use Rattle.protocol.specs.declared.Walked.{Walked}
-use Rattle.protocol.specs.Walk.{tried, placed, seek}
+use Rattle.protocol.specs.Walk.{tried, seek}
 use Rattle.walk.proofs.Turns.{search-end, search-counts, search-here, search-room, search-on}
 use Rattle.walk.proofs.runs.seek_run.Statement.{statement}
 use Rattle.walk.proofs.runs.seek_run.Tie as tie
@@ -50,17 +51,16 @@ here c =
     let s = c .before .before .before in
     rw (← rest-of (s .loop .at) (s .before .before .before .args .path .now)) (c .compare .ensures)
 
-place-run-requires : tie.Need-place-run-requires Inv-loop μ-loop
-place-run-requires c κs = omega arith
+add-past : tie.Need-add-past Inv-loop μ-loop
+add-past c = omega arith
 
 returns : tie.Need-returns Inv-loop μ-loop
 returns c =
-    let s = c .before .before .before .before .before in
+    let s = c .before .before .before .before in
     let a = s .before .before .before .args in
-    let t = here (c .before .before) in
-    c .place-run .ensures
-    ∙ ap (placed (length (a .run .now)) (s .loop .at)) t
-    ∙ sym (search-here (a .run .now) (a .path .now) (s .loop .at) (s .loop .count) (omega arith) (ap (λ (x : Tried). x .stood) (sym t) ∙ c .before .if1 .taken))
+    let t = here (c .before) in
+    ap (λ (x : Tried). record { stood = true; past = s .loop .at + length (a .run .now); count = x .count }) t
+    ∙ sym (search-here (a .run .now) (a .path .now) (s .loop .at) (s .loop .count) (omega arith) (ap (λ (x : Tried). x .stood) (sym t) ∙ c .if1 .taken))
     ∙ s .loop .inv .1
 
 -- where the run doesn't stand, the path goes on
@@ -110,7 +110,7 @@ seek-run-spec =
     part-compare-start
     part-compare-end
     compare-requires
-    place-run-requires
+    add-past
     returns
     add-at
     loop-less

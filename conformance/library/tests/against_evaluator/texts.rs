@@ -1,0 +1,26 @@
+//! The limits, long texts, and texts inside larger memory.
+
+pub const MOST_LINE: usize = 512_000;
+pub const MOST_PATTERN: usize = 512_000;
+pub const MOST_PATH: usize = 2_048;
+pub const MOST_NORMALISED: usize = 6_142;
+
+/// The beginning, then the block again and again, then the end: exactly
+/// `length` octets.
+pub fn lengthened(beginning: &[u8], block: &[u8], end: &[u8], length: usize) -> Vec<u8> {
+    let middle = length - beginning.len() - end.len();
+    let blocks = block.iter().cycle().take(middle).copied();
+    let text: Vec<u8> = beginning.iter().copied().chain(blocks).collect();
+    [text.as_slice(), end].concat()
+}
+
+/// "/" and then one octet again and again.
+pub fn slash_and(octet: u8, length: usize) -> Vec<u8> {
+    lengthened(b"/", &[octet], b"", length)
+}
+
+/// The text inside larger memory, behind `start` octets.
+pub fn surrounded(text: &str, before: &str, after: &str, start: usize) -> Vec<u8> {
+    let front = "a".repeat(start - before.len());
+    format!("{front}{before}{text}{after}").into_bytes()
+}
