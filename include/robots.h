@@ -31,7 +31,7 @@ enum robots_refusal {
     ROBOTS_PATH_START = 4,    /* path doesn't begin with "/" */
     ROBOTS_PATH_OCTET = 5,    /* path holds an octet of 0x20 or less, or "#" */
     ROBOTS_NO_ROOM = 6,       /* normalised path longer than the buffer */
-    ROBOTS_PATTERN = 8,       /* pattern empty or unreadable */
+    ROBOTS_BAD_PATTERN = 8,   /* pattern empty or unreadable */
     ROBOTS_SEVERAL_LINES = 9  /* line holds CR or LF */
 };
 
@@ -139,7 +139,7 @@ size_t robots_line_length(const uint8_t *line, size_t line_length);
  *
  * Answers ROBOTS_ANSWERED (0) if they aren't, else ROBOTS_TOO_LONG (1),
  * ROBOTS_PATH_LENGTH (3), ROBOTS_PATH_START (4), ROBOTS_PATH_OCTET (5) or
- * ROBOTS_PATTERN (8).
+ * ROBOTS_BAD_PATTERN (8).
  */
 size_t robots_match_refusal(const uint8_t *pattern, size_t pattern_length,
                             const uint8_t *path, size_t path_length);

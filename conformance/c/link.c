@@ -176,11 +176,11 @@ static const struct match_row match_rows[] = {
     {{TEXT("")}, {TEXT("a#")}, ROBOTS_PATH_START, 0, 0},
     {{TEXT("/#")}, {TEXT("/#")}, ROBOTS_PATH_OCTET, 0, 0},
     {{TEXT("/")}, {TEXT("/\0")}, ROBOTS_PATH_OCTET, 0, 0},
-    {{TEXT("")}, {TEXT("/")}, ROBOTS_PATTERN, 0, 0},
-    {{TEXT("*.gif$")}, {TEXT("/image.gif")}, ROBOTS_PATTERN, 0, 0},
-    {{TEXT("/#")}, {TEXT("/")}, ROBOTS_PATTERN, 0, 0},
-    {{TEXT("/\0")}, {TEXT("/")}, ROBOTS_PATTERN, 0, 0},
-    {{TEXT("/\xC3")}, {TEXT("/\xC3")}, ROBOTS_PATTERN, 0, 0},
+    {{TEXT("")}, {TEXT("/")}, ROBOTS_BAD_PATTERN, 0, 0},
+    {{TEXT("*.gif$")}, {TEXT("/image.gif")}, ROBOTS_BAD_PATTERN, 0, 0},
+    {{TEXT("/#")}, {TEXT("/")}, ROBOTS_BAD_PATTERN, 0, 0},
+    {{TEXT("/\0")}, {TEXT("/")}, ROBOTS_BAD_PATTERN, 0, 0},
+    {{TEXT("/\xC3")}, {TEXT("/\xC3")}, ROBOTS_BAD_PATTERN, 0, 0},
 };
 
 static unsigned passed;
@@ -437,7 +437,7 @@ static void check_null_match(void)
     check("match refusal", nothing, robots_match_refusal(NULL, 0, NULL, 0), ROBOTS_PATH_LENGTH);
     check("match found", nothing, robots_match_found(NULL, 0, NULL, 0), 0);
     check("match compared", nothing, robots_match_compared(NULL, 0, NULL, 0), 0);
-    check("match refusal", nothing, robots_match_refusal(NULL, 0, slash.start, 1), ROBOTS_PATTERN);
+    check("match refusal", nothing, robots_match_refusal(NULL, 0, slash.start, 1), ROBOTS_BAD_PATTERN);
     check("match found", nothing, robots_match_found(NULL, 0, slash.start, 1), 0);
     check("match compared", nothing, robots_match_compared(NULL, 0, slash.start, 1), 0);
     check("match refusal", slash, robots_match_refusal(slash.start, 1, NULL, 0), ROBOTS_PATH_LENGTH);

@@ -1,12 +1,12 @@
 -- The refusals, row by row, and what a refused normalising writes. Assumes nothing.
 use Prim.Native.Nat.{ℕ, zero, suc, _≤_, _<_}
-use mathlib.Core.Path.{_≡_, refl, sym, _∙_}
+use mathlib.Core.Path.{_≡_, refl, _∙_}
 use mathlib.Core.Bool.{not}
 use mathlib.Core.List.{List, [], _∷_, _++_}
 use native.Mathlib.Omega.{arith}
 use lib.Dec.{leb, eqb}
 use lib.ListN.{length, getD}
-use borrow.Author.Tests.{lt-ltb, le-ltb, leb-true, leb-false, eqb-true, eqb-false}
+use borrow.Author.Tests.{lt-ltb, le-ltb, leb-true, leb-false}
 use Rattle.lists.specs.Choice.{if_then_else_}
 use Rattle.lists.specs.Lists.{any}
 use Rattle.lists.specs.Each.{Each}
@@ -38,6 +38,12 @@ refused-later (r ∷ rows) more n h =
     split (r .given)
     (λ e. let z : r .number ≡ 0 = rw e at h in absurd (omega (arith, n .0)))
     (λ e. rw e (refused-later rows more (n .1) (rw e at h)))
+
+-- where none of the rows refuses, none of the first ones does
+pub none-refused : (rows more : List Row) → refusal (rows ++ more) ≡ 0 → refusal rows ≡ 0
+unfolding refusal
+none-refused [] more h = refl
+none-refused (r ∷ rows) more h = split (r .given) (λ e. rw e (rw e at h)) (λ e. rw e (none-refused rows more (rw e at h)))
 
 -- a path's rows
 pub path-empty : (path : List ℕ) → length path ≡ 0 → refusal (pathRows path) ≡ 3
@@ -87,9 +93,8 @@ module _ (room : ℕ) (path : List ℕ) where
       refused-later (pathRows path) (noRoom room path ∷ []) (path-numbered path) h ∙ rw (lt-ltb room (length (normalPath path)) k)
 
   pub room-known : normaliseRefusal room path ≡ 0 → length (normalPath path) ≤ room
+  unfolding normaliseRefusal
   room-known h =
-      split (eqb (refusal (pathRows path)) 0)
-      (λ e.
+      let n = none-refused (pathRows path) (noRoom room path ∷ []) h in
       split (leb (length (normalPath path)) room) (λ f. leb-true (length (normalPath path)) room f)
-      (λ f. absurd (omega (arith, h, room-short (eqb-true (refusal (pathRows path)) 0 e) (leb-false (length (normalPath path)) room f)))))
-      (λ e. let n = eqb-false (refusal (pathRows path)) 0 e in absurd (n (sym (room-else n) ∙ h)))
+      (λ f. absurd (omega (arith, h, room-short n (leb-false (length (normalPath path)) room f))))

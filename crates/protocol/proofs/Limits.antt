@@ -5,9 +5,9 @@ use mathlib.Core.Path.{_≡_}
 use mathlib.Core.Bool.{true}
 use mathlib.Core.List.{List, [], _∷_, _++_}
 use native.Mathlib.Omega.{arith}
-use lib.Dec.{ltb}
+use lib.Dec.{leb, ltb}
 use lib.ListN.{length}
-use borrow.Author.Tests.{lt-ltb, le-ltb, ltb-false}
+use borrow.Author.Tests.{lt-ltb, le-ltb, ltb-false, leb-true, leb-false}
 use Rattle.lists.proofs.Bools.{split}
 use Rattle.protocol.specs.Octets.{is}
 use Rattle.protocol.specs.Text.{begins}
@@ -23,6 +23,10 @@ module _ (l : List ℕ) (rows : List Row) where
   pub not-too-long : length l ≤ 512_000 → refusal (tooLong l ∷ rows) ≡ refusal rows
   unfolding refusal
   not-too-long h = rw (le-ltb 512_000 (length l) h)
+
+  pub short-known : refusal (tooLong l ∷ rows) ≡ 0 → length l ≤ 512_000
+  short-known h =
+      split (leb (length l) 512_000) (λ e. leb-true _ _ e) (λ e. absurd (omega (arith, h, too-long (leb-false (length l) 512_000 e))))
 
 -- each question that is given a file, a pattern or a line tests it first
 pub file-too-long : (file name path : List ℕ) → 512_000 < length file → decideRefusal file name path ≡ 1

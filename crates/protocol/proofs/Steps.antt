@@ -12,7 +12,7 @@ use Rattle.lists.proofs.Bools.{split}
 use Rattle.protocol.specs.declared.Tried.{Tried}
 use Rattle.protocol.specs.declared.Walked.{Walked}
 use Rattle.protocol.specs.Walk.{tried, failed, placed, tryAt, seek, final, first, next, isLast, later}
-use Rattle.protocol.proofs.Tries.{tryAt-in, tryAt-out, seek-within}
+use Rattle.protocol.proofs.Tries.{tryAt-in, tryAt-out, seek-out, seek-within}
 
 -- the end-marked last run
 module _ (r : List ℕ) (k n : ℕ) (path : List ℕ) where
@@ -63,6 +63,13 @@ module _ (r path : List ℕ) (w : Walked) where
   unfolding next
   next-seek true e z = absurd (true≢false z)
   next-seek false e z = rw e
+
+  -- one that is longer than the path fails at no cost
+  pub next-short : (last : Bool) → w .stood ≡ true → length path < length r → next last r path w ≡ failed (w .count)
+  next-short last e l =
+      split last
+      (λ z. next-final last e z ∙ final-out r (w .past) (w .count) path (omega arith))
+      (λ z. next-seek last e z ∙ seek-out r (w .past) (w .count) (drop (w .past) path) (simp length-drop (omega arith)))
 
 -- after a failed run nothing more is tried
 pub later-kept : (endMark : Bool) (rs : List (List ℕ)) (path : List ℕ) (w : Walked) → w .stood ≡ false → later endMark rs path w ≡ w

@@ -1,21 +1,19 @@
 -- Why a match is refused, row by row, and what is known where it isn't. Assumes nothing.
-use Prim.Native.Nat.{ℕ, _+_, _*_, _≤_, _<_, _^_}
+use Prim.Native.Nat.{ℕ, _≤_}
 use mathlib.Core.Path.{_≡_, sym, _∙_}
 use mathlib.Core.Bool.{true, false}
 use mathlib.Core.List.{List, [], _∷_, _++_}
 use native.Mathlib.Omega.{arith}
 use native.Mathlib.Nat.{mul-le-mul}
-use lib.Dec.{leb, eqb}
 use lib.ListN.{length}
-use borrow.Author.Tests.{leb-true, leb-false, eqb-true, eqb-false}
-use Rattle.lists.proofs.Bools.{split}
 use Rattle.protocol.specs.Readable.{readablePattern}
 use Rattle.protocol.specs.Normal.{normalPath}
 use Rattle.protocol.specs.Pattern.{shapeOf, weight}
 use Rattle.protocol.specs.Refusals.{badPattern, pathRows, refusal, matchRefusal}
 use Rattle.protocol.proofs.Sizes.{weight-size}
-use Rattle.protocol.proofs.Limits.{not-too-long, pattern-too-long, path-room}
-use Rattle.normal.proofs.Refused.{path-numbered, refused-first, refused-later}
+use Rattle.protocol.proofs.Limits.{not-too-long, short-known, path-room}
+use Rattle.normal.proofs.Refused.{path-numbered, refused-first, refused-later, none-refused}
+use Rattle.walk.specs.Weights.{CountFits}
 
 module _ (pattern path : List ℕ) where
   pub path-refuses : length pattern ≤ 512_000 → (refusal (pathRows path) ≡ 0 → ⊥) → matchRefusal pattern path ≡ refusal (pathRows path)
@@ -40,19 +38,16 @@ module _ (pattern path : List ℕ) where
   -- what is known where nothing is refused
   module _ (h : matchRefusal pattern path ≡ 0) where
     short-pattern : length pattern ≤ 512_000
-    short-pattern =
-        split (leb (length pattern) 512_000)
-        (λ e. leb-true _ _ e)
-        (λ e. absurd (omega (arith, h, pattern-too-long pattern path (leb-false (length pattern) 512_000 e))))
+    unfolding matchRefusal
+    short-pattern = short-known pattern (pathRows path ++ (badPattern pattern ∷ [])) h
 
     pub good-path : refusal (pathRows path) ≡ 0
+    unfolding matchRefusal
     good-path =
-        split (eqb (refusal (pathRows path)) 0)
-        (λ e. eqb-true _ _ e)
-        (λ e. let n = eqb-false (refusal (pathRows path)) 0 e in absurd (n (sym (path-refuses short-pattern n) ∙ h)))
+        none-refused (pathRows path) (badPattern pattern ∷ []) (sym (not-too-long pattern (pathRows path ++ (badPattern pattern ∷ [])) short-pattern) ∙ h)
 
     -- the count fits: it is at most 3 * 512,000 * 6,142
-    pub count-fits : weight (shapeOf pattern) * length (normalPath path) < 2 ^ 64
+    pub count-fits : CountFits pattern (normalPath path)
     count-fits =
         let w : weight (shapeOf pattern) ≤ 1_536_000 = omega (arith, weight-size pattern, short-pattern) in
         omega (arith, mul-le-mul w (path-room path good-path))

@@ -1,19 +1,15 @@
--- What is written to the front of lent memory: one raw run in the scratch, or, where it doesn't fit, a failed run. Assumes nothing.
+-- What is written to the front of lent memory is read there: one raw run in the scratch, or how long one is that doesn't fit. Assumes nothing.
 use Prim.Native.Nat.{ℕ, _≤_, _<_}
 use mathlib.Core.Path.{_≡_, sym, ap, _∙_}
 use mathlib.Core.Bool.{Bool, true, false}
 use mathlib.Core.List.{List}
 use native.Mathlib.Omega.{arith}
-use lib.ListN.{length, take, drop, length-drop}
+use lib.ListN.{length, take}
 use lib.Seq.{take-append-seam}
 use lib.Dec.{leb}
 use borrow.Author.Tests.{leb-true, leb-false}
 use Rattle.lists.proofs.Bools.{split}
-use Rattle.protocol.specs.declared.Walked.{Walked}
 use Rattle.protocol.specs.Answers.{atFront}
-use Rattle.protocol.specs.Walk.{failed, next}
-use Rattle.protocol.proofs.Steps.{final-out, next-final, next-seek}
-use Rattle.protocol.proofs.Tries.{seek-out}
 use Rattle.normal.specs.declared.Written.{Written}
 use Rattle.normal.specs.Runs.{normalRun, runOf, runScratch}
 
@@ -56,10 +52,3 @@ module _ (run scratch : List ℕ) where
 
   pub run-outgrows : runOf run scratch ≡ Written.NoRoom → length scratch < length (normalRun run)
   run-outgrows e = leb-false _ _ (sym fitted-run ∙ ap fitted e)
-
--- a later run that is longer than the path fails at no cost
-pub next-short : (last : Bool) (r path : List ℕ) (w : Walked) → w .stood ≡ true → length path < length r → next last r path w ≡ failed (w .count)
-next-short last r path w e l =
-    split last
-    (λ z. next-final r path w last e z ∙ final-out r (w .past) (w .count) path (omega arith))
-    (λ z. next-seek r path w last e z ∙ seek-out r (w .past) (w .count) (drop (w .past) path) (simp length-drop (omega arith)))

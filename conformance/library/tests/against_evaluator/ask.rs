@@ -36,6 +36,11 @@ pub fn each_between(before: &[u8], after: &[u8], check: impl Fn(&[u8])) {
     }
 }
 
+/// Asks about these two parts with each two octets between them.
+pub fn each_two_between(before: &[u8], after: &[u8], check: impl Fn(&[u8])) {
+    each_between(before, b"", |front| each_between(front, after, &check));
+}
+
 /// What the library says of a line.
 pub fn line(line: &[u8]) -> LineKind {
     let given = exact(line);

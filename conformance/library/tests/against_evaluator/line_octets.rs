@@ -1,14 +1,12 @@
 //! Every octet in every part of a line.
 
-use crate::ask::{check_line, each_between};
+use crate::ask::{check_line, each_between, each_two_between};
+use crate::texts::TAILS;
 
 const NAMES: [&[u8]; 3] = [b"user-agent", b"allow", b"disallow"];
 
 /// Values of all sorts: of readable and unreadable agents and patterns.
 const VALUES: [&[u8]; 4] = [b"bot", b"*", b"/x", b""];
-
-/// Octets on both sides of each limit of a tail in UTF-8.
-const TAILS: [u8; 10] = [0x21, 0x7F, 0x80, 0x8F, 0x90, 0x9F, 0xA0, 0xBF, 0xC0, 0xFF];
 
 /// Checks the lines that have each octet between these two parts.
 fn check_between(before: &[u8], after: &[u8]) {
@@ -19,7 +17,9 @@ fn check_between(before: &[u8], after: &[u8]) {
 
 /// Checks the lines that have each two octets between these two parts.
 fn check_two_between(before: &[u8], after: &[u8]) {
-    each_between(before, b"", |front| check_between(front, after));
+    each_two_between(before, after, |line| {
+        check_line(line);
+    });
 }
 
 #[test]

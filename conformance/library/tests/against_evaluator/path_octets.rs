@@ -1,6 +1,6 @@
 //! Every octet in every part of a path.
 
-use crate::ask::{check_path, each_between};
+use crate::ask::{check_path, each_between, each_two_between};
 
 /// Checks the paths that have each octet between these two parts.
 fn check_between(before: &[u8], after: &[u8]) {
@@ -9,7 +9,7 @@ fn check_between(before: &[u8], after: &[u8]) {
 
 /// Checks the paths that have each two octets between these two parts.
 fn check_two_between(before: &[u8], after: &[u8]) {
-    each_between(before, b"", |front| check_between(front, after));
+    each_two_between(before, after, check_path);
 }
 
 #[test]

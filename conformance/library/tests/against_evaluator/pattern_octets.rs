@@ -1,9 +1,7 @@
 //! Every octet in every part of a pattern.
 
-use crate::ask::{check_match, check_refused_match, check_walk, each_between};
-
-/// Octets on both sides of each limit of a tail in UTF-8.
-const TAILS: [u8; 10] = [0x21, 0x7F, 0x80, 0x8F, 0x90, 0x9F, 0xA0, 0xBF, 0xC0, 0xFF];
+use crate::ask::{check_match, check_refused_match, check_walk, each_between, each_two_between};
+use crate::texts::TAILS;
 
 /// Checks the patterns that have each octet between these two parts.
 fn check_between(before: &[u8], after: &[u8], path: &[u8]) {
@@ -15,10 +13,8 @@ fn check_between(before: &[u8], after: &[u8], path: &[u8]) {
 /// Checks the patterns that have each two octets between these two parts,
 /// each against the path of the same octets.
 fn check_two_between(before: &[u8], after: &[u8]) {
-    each_between(before, b"", |front| {
-        each_between(front, after, |pattern| {
-            check_match(pattern, pattern);
-        });
+    each_two_between(before, after, |pattern| {
+        check_match(pattern, pattern);
     });
 }
 

@@ -1,9 +1,13 @@
-//! The limits, long texts, and texts inside larger memory.
+//! The limits, octets beside those of UTF-8, long texts, and texts inside larger
+//! memory.
 
 pub const MOST_LINE: usize = 512_000;
 pub const MOST_PATTERN: usize = 512_000;
 pub const MOST_PATH: usize = 2_048;
 pub const MOST_NORMALISED: usize = 6_142;
+
+/// Octets on both sides of each limit of a tail in UTF-8.
+pub const TAILS: [u8; 10] = [0x21, 0x7F, 0x80, 0x8F, 0x90, 0x9F, 0xA0, 0xBF, 0xC0, 0xFF];
 
 /// The beginning, then the block again and again, then the end: exactly
 /// `length` octets.

@@ -5,9 +5,10 @@ use mathlib.Core.List.{List}
 use native.Mathlib.Omega.{arith}
 use lib.Seq.{length-take-le}
 use borrow.Author.Needs.{needs}
+use Rattle.protocol.proofs.Steps.{next-short}
 use Rattle.normal.specs.Runs.{normalRun}
 use Rattle.protocol.specs.Walk.{next}
-use Rattle.walk.proofs.Scratch.{Fits, run-fits, run-outgrows, next-short}
+use Rattle.walk.proofs.Scratch.{Fits, run-fits, run-outgrows}
 use Rattle.walk.proofs.patterns.later_raw.Statement.{statement}
 use Rattle.walk.proofs.patterns.later_raw.Tie as tie
 
@@ -64,7 +65,7 @@ returns-2 c =
     let s = t .before .before .before .before in
     let a = s .before .before .before .before .before .args in
     let l = run-outgrows (a .run .now) (a .scratch .now) (sym (s .normalise-run .ensures .0) ∙ t .enum-told .given .1) in
-    (c .fail .ensures ∙ sym (next-short (a .last) (normalRun (a .run .now)) (a .path .now) (a .w) (s .before .before .before .before .before .pre .1) (omega (arith, l))), s .normalise-run .ensures .1)
+    (c .fail .ensures ∙ sym (next-short (normalRun (a .run .now)) (a .path .now) (a .w) (a .last) (s .before .before .before .before .before .pre .1) (omega (arith, l))), s .normalise-run .ensures .1)
 
 pub later-raw-spec : {M : Type 1} → statement M
 later-raw-spec =

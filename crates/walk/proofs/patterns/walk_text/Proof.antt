@@ -11,7 +11,7 @@ use borrow.Author.Tests.{not-true, not-false}
 use Rattle.lists.proofs.Scans.{rest-of}
 use Rattle.protocol.specs.declared.Walked.{Walked}
 use Rattle.protocol.specs.Pattern.{isStar, firstRun}
-use Rattle.protocol.specs.Walk.{first, next}
+use Rattle.protocol.specs.Walk.{next}
 use Rattle.protocol.proofs.Steps.{first-within, next-within}
 use Rattle.protocol.proofs.Counted.{later-costs}
 use Rattle.normal.specs.Runs.{normalRun, runScratch}
