@@ -66,6 +66,12 @@ for example in examples/*.c; do
     gcc -std=c99 -Wall -Wextra -Werror -pedantic -Iinclude "$example" "$archive" -o "target/link-test/$(basename "$example" .c)" || fail "gcc on $example: see its messages above"
 done
 
+# examples/link.c closes its example's path, and opens nothing for a file that can't be read
+printed=$(target/link-test/link)
+[ $? -eq 1 ] && [ "$printed" = 'disallow, by line 2: /sailings/draft' ] || fail "target/link-test/link printed '$printed'"
+printed=$(target/link-test/link drydockbot / target/link-test 2>&1)
+[ $? -eq 2 ] || fail "target/link-test/link, given a folder as its file, printed '$printed'"
+
 # README.md, 'See it work': its command prints what stands there
 told() { sed -n '/^## See it work/,/^## /s/^    //p' README.md; }
 printed=$(sh -c "$(told | head -n 1)" | tail -n 1)

@@ -11,7 +11,7 @@
  * The octets needn't end with NUL, and a NUL among them is an octet like
  * others.
  *
- * Places count from 0.
+ * Places count from 0, and line numbers from 1.
  */
 #ifndef ROBOTS_H
 #define ROBOTS_H
@@ -26,7 +26,9 @@ extern "C" {
 /* Why a question is refused. The smallest number that holds is given. */
 enum robots_refusal {
     ROBOTS_ANSWERED = 0,      /* not refused */
-    ROBOTS_TOO_LONG = 1,      /* line or pattern longer than 512,000 octets */
+    ROBOTS_TOO_LONG = 1,      /* file, pattern or line over 512,000 octets */
+    ROBOTS_BAD_NAME = 2,      /* name empty, over ROBOTS_NAME_MOST octets, or
+                                 with an octet other than A-Z a-z - _ */
     ROBOTS_PATH_LENGTH = 3,   /* path empty, or over ROBOTS_PATH_MOST octets */
     ROBOTS_PATH_START = 4,    /* path doesn't begin with "/" */
     ROBOTS_PATH_OCTET = 5,    /* path holds an octet of 0x20 or less, or "#" */
@@ -53,11 +55,111 @@ enum robots_kind {
 
 /* The longest inputs that are answered, and the longest outcome. */
 enum robots_limit {
+    ROBOTS_FILE_MOST = 512000,    /* octets of a rules file */
+    ROBOTS_NAME_MOST = 64,        /* octets of a crawler's name */
     ROBOTS_LINE_MOST = 512000,    /* octets of a line */
     ROBOTS_PATTERN_MOST = 512000, /* octets of a pattern */
     ROBOTS_PATH_MOST = 2048,      /* octets of a path */
     ROBOTS_NORMALISED_MOST = 6142 /* octets of a normalised path */
 };
+
+/*
+ * May a crawler fetch a path, by a rules file?
+ *
+ * `file` is a whole robots.txt as it was fetched; it may be empty. `name` is
+ * the crawler's name as user-agent lines write it: it is compared with theirs
+ * ignoring ASCII case, and is equal or different. `path` is given raw, with its
+ * query if any.
+ *
+ * If any group of the file names the crawler, the rules of all such groups
+ * apply; otherwise those of all groups that name "*"; otherwise none. Of the
+ * rules that match the path the heaviest decides, allow before disallow at
+ * equal weight, then the earliest line. A match and a weight are as below, with
+ * robots_match_found and robots_match_compared. If no rule matches, or if the
+ * normalised path is /robots.txt, no rule decides and the answer is allow.
+ *
+ * The seven functions take the same question, and each answers one number of
+ * the same decision. If refused, robots_decide_disallow answers 1, and line,
+ * place, length and both counts are 0.
+ *
+ * A call needs about 12 KiB of stack, however long the file is. No memory is
+ * lent to it.
+ */
+
+/*
+ * Why a file, a name and a path are refused.
+ *
+ * Answers ROBOTS_ANSWERED (0) if they aren't, else ROBOTS_TOO_LONG (1),
+ * ROBOTS_BAD_NAME (2), ROBOTS_PATH_LENGTH (3), ROBOTS_PATH_START (4) or
+ * ROBOTS_PATH_OCTET (5).
+ */
+size_t robots_decide_refusal(const uint8_t *file, size_t file_length,
+                             const uint8_t *name, size_t name_length,
+                             const uint8_t *path, size_t path_length);
+
+/*
+ * Whether the crawler has to leave the path alone.
+ *
+ * Answers 0 for allow and 1 for disallow. Answers 1 if refused.
+ */
+size_t robots_decide_disallow(const uint8_t *file, size_t file_length,
+                              const uint8_t *name, size_t name_length,
+                              const uint8_t *path, size_t path_length);
+
+/*
+ * The number of the line that decided.
+ *
+ * It is the line of the deciding rule. Answers 0 if no rule decided, and if
+ * refused.
+ */
+size_t robots_decide_line(const uint8_t *file, size_t file_length,
+                          const uint8_t *name, size_t name_length,
+                          const uint8_t *path, size_t path_length);
+
+/*
+ * The place in the file of the deciding rule's pattern.
+ *
+ * Answers 0 if no rule decided, and if refused. Otherwise the octets from this
+ * place on, as many as robots_decide_length answers, lie inside the file. They
+ * are the pattern raw, as it is written there. If the file begins with
+ * EF BB BF, these octets are skipped, but the places count from the first.
+ */
+size_t robots_decide_place(const uint8_t *file, size_t file_length,
+                           const uint8_t *name, size_t name_length,
+                           const uint8_t *path, size_t path_length);
+
+/*
+ * The length of the deciding rule's pattern, raw, without the spaces and tabs
+ * around it and without a comment.
+ *
+ * Answers 0 if no rule decided, and if refused.
+ */
+size_t robots_decide_length(const uint8_t *file, size_t file_length,
+                            const uint8_t *name, size_t name_length,
+                            const uint8_t *path, size_t path_length);
+
+/*
+ * The number of unreadable user-agent, allow and disallow lines in the whole
+ * file, whoever they are for. An allow or disallow line without a pattern isn't
+ * one of them.
+ *
+ * Answers 0 if refused; an answer of 0 by itself is no refusal.
+ */
+size_t robots_decide_unread(const uint8_t *file, size_t file_length,
+                            const uint8_t *name, size_t name_length,
+                            const uint8_t *path, size_t path_length);
+
+/*
+ * The number of pairs of octets that were compared to decide.
+ *
+ * It is the sum of what robots_match_compared answers for each readable rule
+ * that applies, and 0 if the normalised path is /robots.txt. It is at most the
+ * summed weights of those rules, times the octets of the normalised path.
+ * Answers 0 if refused; an answer of 0 by itself is no refusal.
+ */
+size_t robots_decide_compared(const uint8_t *file, size_t file_length,
+                              const uint8_t *name, size_t name_length,
+                              const uint8_t *path, size_t path_length);
 
 /*
  * Normalises a path, with its query if any, into the front of `buffer`.

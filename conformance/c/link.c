@@ -19,6 +19,20 @@ struct octets {
     size_t length;
 };
 
+/* The deciding pattern is empty, and its place 0, where no rule decides. */
+struct decide_row {
+    struct octets file;
+    struct octets name;
+    struct octets path;
+    size_t refusal;
+    size_t disallow;
+    size_t line;
+    size_t place;
+    struct octets pattern;
+    size_t unread;
+    size_t compared;
+};
+
 struct line_row {
     struct octets line;
     size_t refusal;
@@ -43,6 +57,49 @@ struct match_row {
     size_t refusal;
     size_t found;
     size_t compared;
+};
+
+/* What a refused decision and one by no rule hold behind the refusal. */
+#define REFUSED 1, 0, 0, {TEXT("")}, 0, 0
+#define NO_RULE(unread, compared) 0, 0, 0, {TEXT("")}, unread, compared
+
+static const struct decide_row decide_rows[] = {
+    /* document 01's table */
+    {{TEXT("")}, {TEXT("a")}, {TEXT("/")}, ROBOTS_ANSWERED, NO_RULE(0, 0)},
+    {{TEXT("user-agent: a\ndisallow: /")}, {TEXT("A")}, {TEXT("/x")}, ROBOTS_ANSWERED, 1, 2, 24, {TEXT("/")}, 0, 1},
+    {{TEXT("user-agent: a\ndisallow: /")}, {TEXT("a")}, {TEXT("/%72obots.txt")}, ROBOTS_ANSWERED, NO_RULE(0, 0)},
+    {{TEXT("user-agent: a\ndisallow: /")}, {TEXT("b")}, {TEXT("/x")}, ROBOTS_ANSWERED, NO_RULE(0, 0)},
+    {{TEXT("user-agent: *\nallow: /p\ndisallow: /")}, {TEXT("a")}, {TEXT("/page")}, ROBOTS_ANSWERED, 0, 2, 21, {TEXT("/p")}, 0, 3},
+    {{TEXT("user-agent: *\ndisallow: /folder\nallow: /folder")}, {TEXT("a")}, {TEXT("/folder/page")}, ROBOTS_ANSWERED, 0, 3, 39, {TEXT("/folder")}, 0, 14},
+    {{TEXT("user-agent: *\nallow: /page\ndisallow: /*.htm")}, {TEXT("a")}, {TEXT("/page.htm")}, ROBOTS_ANSWERED, 1, 3, 37, {TEXT("/*.htm")}, 0, 14},
+    {{TEXT("user-agent: *\ndisallow: /*.php$")}, {TEXT("a")}, {TEXT("/filename.php5")}, ROBOTS_ANSWERED, NO_RULE(0, 2)},
+    {{TEXT("user-agent: *\ndisallow: /path/foo-%24")}, {TEXT("a")}, {TEXT("/path/foo-$")}, ROBOTS_ANSWERED, 1, 2, 24, {TEXT("/path/foo-%24")}, 0, 13},
+    {{TEXT("user-agent: a\nsitemap: x\nuser-agent: b\ndisallow: /")}, {TEXT("a")}, {TEXT("/")}, ROBOTS_ANSWERED, 1, 4, 49, {TEXT("/")}, 0, 1},
+    {{TEXT("user-agent: a\ndisallow: x\nuser-agent: b\ndisallow: /")}, {TEXT("a")}, {TEXT("/")}, ROBOTS_ANSWERED, NO_RULE(1, 0)},
+    /* document 01's program */
+    {{TEXT("user-agent: *\ndisallow: /sailings/draft\nallow: /sailings\n")}, {TEXT("drydockbot")}, {TEXT("/sailings/draft/9")}, ROBOTS_ANSWERED, 1, 2, 24, {TEXT("/sailings/draft")}, 0, 24},
+    /* "those three octets are skipped but keep their places" */
+    {{TEXT("\xEF\xBB\xBF" "user-agent: a\r\nallow:\t/x # y\r\n")}, {TEXT("a")}, {TEXT("/x")}, ROBOTS_ANSWERED, 0, 2, 25, {TEXT("/x")}, 0, 2},
+    /* "LF CR is two endings" */
+    {{TEXT("user-agent: a\n\rdisallow: /%78$")}, {TEXT("a")}, {TEXT("/x")}, ROBOTS_ANSWERED, 1, 3, 25, {TEXT("/%78$")}, 0, 2},
+    /* NUL is an octet like others */
+    {{TEXT("\0\nuser-agent: a\ndisallow: /")}, {TEXT("a")}, {TEXT("/")}, ROBOTS_ANSWERED, 1, 3, 26, {TEXT("/")}, 0, 1},
+    /* "the rules of all such groups, each group once" */
+    {{TEXT("user-agent: a\nuser-agent: A\nallow: /\nuser-agent: *\nallow: /x/y\nuser-agent: a\ndisallow: /x")}, {TEXT("a")}, {TEXT("/x/y")}, ROBOTS_ANSWERED, 1, 7, 87, {TEXT("/x")}, 0, 3},
+    /* "allow before disallow at equal weight, then the earliest line" */
+    {{TEXT("user-agent: a\ndisallow: /x\nallow: /*\nallow: /x")}, {TEXT("a")}, {TEXT("/x")}, ROBOTS_ANSWERED, 0, 3, 34, {TEXT("/*")}, 0, 5},
+    /* "/robots.txt?x isn't that path" */
+    {{TEXT("user-agent: *\ndisallow: /")}, {TEXT("a")}, {TEXT("/robots.txt?x")}, ROBOTS_ANSWERED, 1, 2, 24, {TEXT("/")}, 0, 1},
+    /* "The unread count is the number of unreadable agent and rule lines in the whole file." */
+    {{TEXT("user-agent: 9\nallow: x\ndisallow:\nuser-agent: *\ndisallow: /")}, {TEXT("a")}, {TEXT("/robots.txt")}, ROBOTS_ANSWERED, NO_RULE(2, 0)},
+    /* the table of refusals, "the smallest number first"; "A refused decision holds its number, disallow, and zeros." */
+    {{TEXT("user-agent: 9\nuser-agent: *\nallow: /")}, {TEXT("")}, {TEXT("")}, ROBOTS_BAD_NAME, REFUSED},
+    {{TEXT("user-agent: 9\nuser-agent: *\nallow: /")}, {TEXT("*")}, {TEXT("/")}, ROBOTS_BAD_NAME, REFUSED},
+    {{TEXT("user-agent: 9\nuser-agent: *\nallow: /")}, {TEXT("a\0")}, {TEXT("/")}, ROBOTS_BAD_NAME, REFUSED},
+    {{TEXT("user-agent: 9\nuser-agent: *\nallow: /")}, {TEXT("a")}, {TEXT("")}, ROBOTS_PATH_LENGTH, REFUSED},
+    {{TEXT("user-agent: 9\nuser-agent: *\nallow: /")}, {TEXT("a")}, {TEXT("a#")}, ROBOTS_PATH_START, REFUSED},
+    {{TEXT("user-agent: 9\nuser-agent: *\nallow: /")}, {TEXT("a")}, {TEXT("/#")}, ROBOTS_PATH_OCTET, REFUSED},
+    {{TEXT("user-agent: 9\nuser-agent: *\nallow: /")}, {TEXT("a")}, {TEXT("/\0")}, ROBOTS_PATH_OCTET, REFUSED},
 };
 
 static const struct line_row line_rows[] = {
@@ -235,6 +292,33 @@ static uint8_t *copy(struct octets text)
     return start;
 }
 
+/* The arguments of each function of a decision. */
+#define QUESTION file, row.file.length, name, row.name.length, path, row.path.length
+
+/* A message shows the row's path. */
+static void check_decide(struct decide_row row)
+{
+    uint8_t *file = copy(row.file);
+    uint8_t *name = copy(row.name);
+    uint8_t *path = copy(row.path);
+    size_t place = robots_decide_place(QUESTION);
+    size_t length = robots_decide_length(QUESTION);
+
+    check("refusal", row.path, robots_decide_refusal(QUESTION), row.refusal);
+    check("disallow", row.path, robots_decide_disallow(QUESTION), row.disallow);
+    check("deciding line", row.path, robots_decide_line(QUESTION), row.line);
+    check("deciding place", row.path, place, row.place);
+    check("deciding length", row.path, length, row.pattern.length);
+    check("unread", row.path, robots_decide_unread(QUESTION), row.unread);
+    check("compared", row.path, robots_decide_compared(QUESTION), row.compared);
+    if (length > 0 && place == row.place && length == row.pattern.length) {
+        check("difference in the deciding octets", row.path, memcmp(file + place, row.pattern.start, length) != 0, 0);
+    }
+    free(path);
+    free(name);
+    free(file);
+}
+
 static void check_line(struct line_row row)
 {
     uint8_t *line = copy(row.line);
@@ -321,6 +405,9 @@ static void check_rows(void)
 {
     size_t row;
 
+    for (row = 0; row < COUNT(decide_rows); row++) {
+        check_decide(decide_rows[row]);
+    }
     for (row = 0; row < COUNT(line_rows); row++) {
         check_line(line_rows[row]);
     }
@@ -340,10 +427,40 @@ static void check_limits(void)
 {
     struct octets nothing = {NULL, 0};
 
+    check("limit", nothing, ROBOTS_FILE_MOST, 512000);
+    check("limit", nothing, ROBOTS_NAME_MOST, 64);
     check("limit", nothing, ROBOTS_LINE_MOST, 512000);
     check("limit", nothing, ROBOTS_PATTERN_MOST, 512000);
     check("limit", nothing, ROBOTS_PATH_MOST, 2048);
     check("limit", nothing, ROBOTS_NORMALISED_MOST, 6142);
+}
+
+/* "Just inside: a 512,000-octet file, a 64-octet name, a 2,048-octet path" */
+static void check_longest_question(void)
+{
+    static const char rules[] = "user-agent:*\ndisallow:/";
+    uint8_t *file = memory(ROBOTS_FILE_MOST + 1);
+    uint8_t *name = memory(ROBOTS_NAME_MOST + 1);
+    uint8_t *path = memory(ROBOTS_PATH_MOST + 1);
+    struct decide_row inside = {{file, 512000}, {name, 64}, {path, 2048}, ROBOTS_ANSWERED, 1, 2, 22, {NULL, 0}, 0, 1};
+    struct decide_row long_file = {{file, 512001}, {name, 65}, {path, 2049}, ROBOTS_TOO_LONG, REFUSED};
+    struct decide_row long_name = {{file, 512000}, {name, 65}, {path, 2049}, ROBOTS_BAD_NAME, REFUSED};
+    struct decide_row long_path = {{file, 512000}, {name, 64}, {path, 2049}, ROBOTS_PATH_LENGTH, REFUSED};
+
+    memset(file, '*', ROBOTS_FILE_MOST + 1);
+    memcpy(file, rules, sizeof rules - 1);
+    memset(name, 'a', ROBOTS_NAME_MOST + 1);
+    memset(path, '%', ROBOTS_PATH_MOST + 1);
+    path[0] = '/';
+    inside.pattern.start = file + 22;
+    inside.pattern.length = 512000 - 22;
+    check_decide(inside);
+    check_decide(long_file);
+    check_decide(long_name);
+    check_decide(long_path);
+    free(path);
+    free(name);
+    free(file);
 }
 
 /* "file, pattern or line longer than 512,000 octets" */
@@ -428,6 +545,26 @@ static void check_null(void)
     check("octets written", slash, robots_normalise(slash.start, 1, NULL, 0), 0);
 }
 
+/* The same for a file, a name and a path. */
+static void check_null_decide(void)
+{
+    struct octets nothing = {NULL, 0};
+    struct octets slash = {TEXT("/")};
+    const uint8_t *a = (const uint8_t *)"a";
+
+    check("refusal", nothing, robots_decide_refusal(NULL, 0, NULL, 0, NULL, 0), ROBOTS_BAD_NAME);
+    check("disallow", nothing, robots_decide_disallow(NULL, 0, NULL, 0, NULL, 0), 1);
+    check("refusal", nothing, robots_decide_refusal(NULL, 0, a, 1, NULL, 0), ROBOTS_PATH_LENGTH);
+    check("disallow", nothing, robots_decide_disallow(NULL, 0, a, 1, NULL, 0), 1);
+    check("refusal", slash, robots_decide_refusal(NULL, 0, a, 1, slash.start, 1), ROBOTS_ANSWERED);
+    check("disallow", slash, robots_decide_disallow(NULL, 0, a, 1, slash.start, 1), 0);
+    check("deciding line", slash, robots_decide_line(NULL, 0, a, 1, slash.start, 1), 0);
+    check("deciding place", slash, robots_decide_place(NULL, 0, a, 1, slash.start, 1), 0);
+    check("deciding length", slash, robots_decide_length(NULL, 0, a, 1, slash.start, 1), 0);
+    check("unread", slash, robots_decide_unread(NULL, 0, a, 1, slash.start, 1), 0);
+    check("compared", slash, robots_decide_compared(NULL, 0, a, 1, slash.start, 1), 0);
+}
+
 /* The same for a pattern and a path. */
 static void check_null_match(void)
 {
@@ -453,10 +590,12 @@ int main(int count, char **words)
     }
     check_rows();
     check_limits();
+    check_longest_question();
     check_longest_line();
     check_longest_path();
     check_longest_pattern();
     check_null();
+    check_null_decide();
     check_null_match();
     if (failed > 0) {
         printf("link test: %u checks failed, %u passed\n", failed, passed);

@@ -4,8 +4,7 @@
 use std::time::Instant;
 
 use crate::inputs::Input;
-use crate::measure::measure;
-use crate::passes::{self, MATCHING};
+use crate::passes::{checked_medians, MATCHING};
 
 /// Octets of the short path, on which going back takes about a second, and of
 /// the longest path.
@@ -68,8 +67,7 @@ fn print_row(case: &Case, time_back: Option<f64>) {
         text: question.repeat(calls),
     };
     let records = input.records();
-    passes::check(&input, &records, &MATCHING);
-    let medians = measure(&input, &records, &MATCHING);
+    let medians = checked_medians(&input, &records, &MATCHING);
     let each = |nanoseconds: f64| nanoseconds / calls as f64;
     let or_dash = |text: Option<String>| text.unwrap_or_else(|| "-".to_string());
     println!(

@@ -52,10 +52,15 @@ impl Input {
 }
 
 /// A fixed row of numbers (a linear congruence).
-struct Numbers(u64);
+pub struct Numbers(u64);
 
 impl Numbers {
-    fn below(&mut self, limit: usize) -> usize {
+    /// The same numbers each time.
+    pub fn new() -> Numbers {
+        Numbers(9_309)
+    }
+
+    pub fn below(&mut self, limit: usize) -> usize {
         self.0 = self
             .0
             .wrapping_mul(6_364_136_223_846_793_005)
@@ -63,14 +68,14 @@ impl Numbers {
         (self.0 >> 33) as usize % limit
     }
 
-    fn pick<'a>(&mut self, words: &[&'a str]) -> &'a str {
+    pub fn pick<'a>(&mut self, words: &[&'a str]) -> &'a str {
         words[self.below(words.len())]
     }
 }
 
 /// Records until the text is long enough.
 fn input(name: &'static str, record: impl Fn(&mut Numbers) -> String) -> Input {
-    let mut numbers = Numbers(9_309);
+    let mut numbers = Numbers::new();
     let mut text = Vec::new();
     while text.len() < LENGTH {
         text.extend(record(&mut numbers).bytes());
@@ -82,7 +87,12 @@ fn input(name: &'static str, record: impl Fn(&mut Numbers) -> String) -> Input {
 /// A file as sites have them: comments, agents, rules, blank lines and
 /// others.
 pub fn mixed_file() -> Input {
-    input("mixed lines", |numbers| match numbers.below(20) {
+    input("mixed lines", mixed_line)
+}
+
+/// A line of such a file.
+pub fn mixed_line(numbers: &mut Numbers) -> String {
+    match numbers.below(20) {
         0..=2 => format!("# {}", sentence(numbers)),
         3 | 4 => String::new(),
         5..=7 => format!("User-agent: {}", numbers.pick(&AGENTS)),
@@ -90,7 +100,7 @@ pub fn mixed_file() -> Input {
         9 => format!("Crawl-delay: {}", numbers.below(30)),
         10 => format!("disallow: {} # {}", pattern(numbers), sentence(numbers)),
         _ => rule(numbers),
-    })
+    }
 }
 
 /// A file of rules.
@@ -162,7 +172,7 @@ fn star_pattern(numbers: &mut Numbers, folders: &str, end: &str) -> String {
     }
 }
 
-fn rule(numbers: &mut Numbers) -> String {
+pub fn rule(numbers: &mut Numbers) -> String {
     let side = numbers.pick(&["Allow", "Disallow", "Disallow", "disallow"]);
     format!("{side}: {}", pattern(numbers))
 }
@@ -182,7 +192,7 @@ fn folders(numbers: &mut Numbers) -> String {
     path
 }
 
-fn plain_path(numbers: &mut Numbers) -> String {
+pub fn plain_path(numbers: &mut Numbers) -> String {
     let mut path = folders(numbers);
     if numbers.below(4) == 0 {
         path.push_str(&format!("?id={}&lang=en", numbers.below(10_000)));
@@ -190,7 +200,7 @@ fn plain_path(numbers: &mut Numbers) -> String {
     path
 }
 
-fn sentence(numbers: &mut Numbers) -> String {
+pub fn sentence(numbers: &mut Numbers) -> String {
     let words: Vec<&str> = (0..3 + numbers.below(8))
         .map(|_| numbers.pick(&WORDS))
         .collect();

@@ -2,15 +2,17 @@
 //! plain pass over the same octets. `docs/BENCHMARKS.md` says what is
 //! measured.
 
+mod deciding;
 mod eleven;
 mod inputs;
 mod measure;
 mod passes;
+mod sites;
 
 use std::process::exit;
 
 use inputs::Input;
-use measure::{measure, Medians};
+use measure::Medians;
 use passes::Passes;
 
 const USAGE: &str =
@@ -45,13 +47,14 @@ fn main() {
     run(&inputs::fixed_patterns(), &passes::MATCHING);
     run(&inputs::star_patterns(), &passes::MATCHING);
     println!();
+    deciding::run();
+    println!();
     eleven::run();
 }
 
 fn run(input: &Input, passes: &Passes) {
     let records = input.records();
-    passes::check(input, &records, passes);
-    let medians = measure(input, &records, passes);
+    let medians = passes::checked_medians(input, &records, passes);
     print_row(input, records.len() / passes.parts, &medians);
 }
 

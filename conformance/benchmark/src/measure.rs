@@ -3,9 +3,6 @@
 use std::hint::black_box;
 use std::time::Instant;
 
-use crate::inputs::Input;
-use crate::passes::{count_line_feeds, Passes};
-
 /// Passes of each sort. It is odd, so that one of them is the median.
 pub const REPETITIONS: usize = 201;
 
@@ -19,16 +16,27 @@ pub struct Medians {
     pub plain: f64,
 }
 
+/// Three passes over the same octets, each giving one sum.
+pub struct Turns<'a> {
+    pub name: &'a str,
+    pub library: &'a dyn Fn() -> usize,
+    pub evaluator: &'a dyn Fn() -> usize,
+    /// Counts the LFs.
+    pub plain: &'a dyn Fn() -> usize,
+    /// How many LFs there are.
+    pub line_feeds: usize,
+}
+
 /// Measures the three passes one after the other, again and again. Each time
 /// library and evaluator must give the same sum.
-pub fn measure(input: &Input, records: &[&[u8]], passes: &Passes) -> Medians {
+pub fn measure(turns: &Turns) -> Medians {
     let (mut library, mut evaluator, mut plain) = (Vec::new(), Vec::new(), Vec::new());
     for repetition in 0..WARM_UP + REPETITIONS {
-        let (time_library, sum) = timed(|| (passes.library)(records));
-        let (time_evaluator, expected) = timed(|| (passes.evaluator)(records));
-        let (time_plain, line_feeds) = timed(|| count_line_feeds(&input.text));
-        assert_eq!(sum, expected, "{}: sums", input.name);
-        assert_eq!(line_feeds, records.len(), "{}: records", input.name);
+        let (time_library, sum) = timed(turns.library);
+        let (time_evaluator, expected) = timed(turns.evaluator);
+        let (time_plain, line_feeds) = timed(turns.plain);
+        assert_eq!(sum, expected, "{}: sums", turns.name);
+        assert_eq!(line_feeds, turns.line_feeds, "{}: LFs", turns.name);
         if repetition >= WARM_UP {
             library.push(time_library);
             evaluator.push(time_evaluator);

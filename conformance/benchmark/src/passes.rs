@@ -3,6 +3,7 @@
 use std::hint::black_box;
 
 use crate::inputs::Input;
+use crate::measure::{measure, Medians, Turns};
 
 /// The same question asked of all records, by the library and by the
 /// evaluator.
@@ -96,9 +97,21 @@ pub fn count_line_feeds(text: &[u8]) -> usize {
         .count()
 }
 
+/// Checks the passes over this input, and measures them.
+pub fn checked_medians(input: &Input, records: &[&[u8]], passes: &Passes) -> Medians {
+    check(input, records, passes);
+    measure(&Turns {
+        name: input.name,
+        library: &|| (passes.library)(records),
+        evaluator: &|| (passes.evaluator)(records),
+        plain: &|| count_line_feeds(&input.text),
+        line_feeds: records.len(),
+    })
+}
+
 /// All three passes see the same octets, and library and evaluator answer
 /// alike.
-pub fn check(input: &Input, records: &[&[u8]], passes: &Passes) {
+fn check(input: &Input, records: &[&[u8]], passes: &Passes) {
     let octets: usize = records.iter().map(|record| record.len() + 1).sum();
     assert_eq!(octets, input.text.len(), "{}: octets", input.name);
     let line_feeds = count_line_feeds(&input.text);

@@ -14,6 +14,9 @@ pub(crate) struct Answer {
     pub(crate) deciding: Option<Rule>,
     pub(crate) unread: usize,
     pub(crate) compared: usize,
+    /// "at most the summed weights of those rules, times the octets of the
+    /// normalised path"
+    pub(crate) bound: usize,
 }
 
 /// A rule with its walk's answer.
@@ -46,6 +49,7 @@ pub(crate) fn answer(file: &[u8], name: &[u8], path: &[u8]) -> Answer {
             deciding: None,
             unread,
             compared: 0,
+            bound: 0,
         };
     }
     let length = path.octets().len();
@@ -59,8 +63,9 @@ pub(crate) fn answer(file: &[u8], name: &[u8], path: &[u8]) -> Answer {
         .collect();
     let compared = walked.iter().map(|w| w.weighed.walk.compared).sum();
     let summed: usize = walked.iter().map(|w| w.weighed.weight.0).sum();
+    let bound = summed * length;
     assert!(
-        compared <= summed * length,
+        compared <= bound,
         "{compared} compared for a summed weight of {summed} and a path of {length}"
     );
     let deciding = deciding_rule(&walked);
@@ -75,6 +80,7 @@ pub(crate) fn answer(file: &[u8], name: &[u8], path: &[u8]) -> Answer {
         deciding,
         unread,
         compared,
+        bound,
     }
 }
 

@@ -75,6 +75,13 @@ pub fn decide(file: &[u8], name: &[u8], path: &[u8]) -> Decision {
     }
 }
 
+/// The bound of a decision's compared count: the summed weights of the readable
+/// rules that apply, times the octets of the normalised path. 0 if refused, and
+/// for /robots.txt.
+pub fn compared_bound(file: &[u8], name: &[u8], path: &[u8]) -> usize {
+    unrefused_decision(file, name, path).map_or(0, |answer| answer.bound)
+}
+
 fn unrefused_decision(file: &[u8], name: &[u8], path: &[u8]) -> Result<Answer, Refusal> {
     refusal::length(file)?;
     refusal::name(name)?;

@@ -4,16 +4,20 @@
 //! Each row holds a question, what the source prints, and what document 01
 //! answers. Of the evaluator only the types of its answers are used here.
 //!
-//! `walk_rows` gives walks of our own, worked out by hand.
+//! `walk_rows` gives walks of our own, worked out by hand; `definition_rows`
+//! gives the rows of the definitions' tables.
 
 mod answer;
+mod definitions;
 mod long_walks;
 mod octets;
 mod reader;
+mod rows;
 mod walks;
 
 use std::fmt;
 
+pub use definitions::{definition_rows, Asked, DefinitionRow, Told, SORTS};
 pub use evaluator::{Decision, LineKind, Matched};
 pub use reader::read;
 pub use walks::{walk_rows, WalkRow};

@@ -19,7 +19,7 @@ pub(crate) fn derived_case(random: &mut Random) -> MatchCase {
 
 /// Stretches of the path, the first of them its beginning. Where the last one
 /// reaches the path's end there often is an end mark.
-fn stretches(random: &mut Random, path: &[u8]) -> Vec<u8> {
+pub(crate) fn stretches(random: &mut Random, path: &[u8]) -> Vec<u8> {
     let cuts = match random.below(8) {
         0 => 0,
         1 => random.between(8, 14),
@@ -63,7 +63,7 @@ fn spelt(random: &mut Random, octet: u8) -> Vec<u8> {
 
 /// Changes, takes away or adds an octet behind the first one, or swaps two
 /// neighbours there.
-fn damage(random: &mut Random, pattern: &mut Vec<u8>) {
+pub(crate) fn damage(random: &mut Random, pattern: &mut Vec<u8>) {
     let length = pattern.len();
     let octet = random.octet_of(b"abbc/.%$?");
     match random.below(6) {

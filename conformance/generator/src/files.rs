@@ -15,7 +15,7 @@ pub(crate) struct Setting {
     pub(crate) patterns: Vec<Vec<u8>>,
 }
 
-const ENDINGS: [&[u8]; 4] = [b"\r", b"\n", b"\r\n", b"\n\r"];
+pub(crate) const ENDINGS: [&[u8]; 4] = [b"\r", b"\n", b"\r\n", b"\n\r"];
 
 impl Setting {
     pub(crate) fn new(random: &mut Random, name: &[u8]) -> Setting {
@@ -156,7 +156,7 @@ impl Setting {
     }
 }
 
-fn field_line(random: &mut Random, field: &[u8], value: &[u8]) -> Vec<u8> {
+pub(crate) fn field_line(random: &mut Random, field: &[u8], value: &[u8]) -> Vec<u8> {
     let mut line = spaces(random).to_vec();
     if random.one_in(3) {
         line.extend(other_case(random, field));
@@ -174,7 +174,7 @@ fn field_line(random: &mut Random, field: &[u8], value: &[u8]) -> Vec<u8> {
     line
 }
 
-fn comment(random: &mut Random) -> Vec<u8> {
+pub(crate) fn comment(random: &mut Random) -> Vec<u8> {
     let text = match random.below(4) {
         0 => b" disallow: /".to_vec(),
         1 => b"user-agent:*#".to_vec(),

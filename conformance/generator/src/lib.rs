@@ -10,9 +10,10 @@
 //!   cases everywhere.
 //!
 //! A case holds a question and no answer. `strings` and `after_slash` give all
-//! texts up to a length.
+//! texts up to a length, and `normal_length` the length of a normalised path.
 
 mod derived;
+mod derived_files;
 mod edges;
 mod files;
 mod patterns;
@@ -21,11 +22,13 @@ mod small;
 mod text;
 
 pub use edges::{decide_edges, line_edges, match_edges, normalise_edges, program_edges};
+pub use patterns::normal_length;
 pub use small::{after_slash, strings};
 
 use derived::derived_case;
+use derived_files::{derived_decide_case, long_decide_case};
 use files::Setting;
-use patterns::{normal_length, path, pattern, theme};
+use patterns::{path, pattern, theme};
 use random::Random;
 use text::{any_octets, name, MARK};
 
@@ -72,6 +75,8 @@ const NORMALISE: u64 = 3;
 const LINE: u64 = 4;
 const PROGRAM: u64 = 5;
 const DERIVED: u64 = 6;
+const DERIVED_DECIDE: u64 = 7;
+const LONG_DECIDE: u64 = 8;
 
 /// Draws `count` cases of one sort.
 fn drawn<T>(
@@ -87,6 +92,17 @@ fn drawn<T>(
 /// patterns, and the file often names the crawler.
 pub fn decide_cases(seed: u64, count: usize) -> impl Iterator<Item = DecideCase> {
     drawn(seed, DECIDE, count, decide_case)
+}
+
+/// Generated questions for deciding, with files whose patterns are made from
+/// the path: most are decided by a rule, many by one of several that match.
+pub fn derived_decide_cases(seed: u64, count: usize) -> impl Iterator<Item = DecideCase> {
+    drawn(seed, DERIVED_DECIDE, count, derived_decide_case)
+}
+
+/// The same with files about as long as one may be; half are too long.
+pub fn long_decide_cases(seed: u64, count: usize) -> impl Iterator<Item = DecideCase> {
+    drawn(seed, LONG_DECIDE, count, long_decide_case)
 }
 
 /// Generated questions for matching.

@@ -233,7 +233,7 @@ fn long_path(random: &mut Random) -> Vec<u8> {
 }
 
 /// A path that is refused, or nearly.
-fn damaged_path(random: &mut Random, theme: &[u8]) -> Vec<u8> {
+pub(crate) fn damaged_path(random: &mut Random, theme: &[u8]) -> Vec<u8> {
     let mut path = theme.to_vec();
     match random.below(6) {
         0 => path.clear(),
@@ -269,7 +269,7 @@ fn mended(random: &mut Random, mut path: Vec<u8>) -> Vec<u8> {
 }
 
 /// The length of the normalised path.
-pub(crate) fn normal_length(path: &[u8]) -> usize {
+pub fn normal_length(path: &[u8]) -> usize {
     let mut length = 0;
     let mut at = 0;
     while at < path.len() {

@@ -12,9 +12,17 @@ fn decide_case(case: &DecideCase) -> Decision {
     decide(&case.file, &case.name, &case.path)
 }
 
-/// Generated cases that aren't refused.
+/// Generated cases of both sorts that aren't refused.
 fn answered() -> impl Iterator<Item = (DecideCase, Decision)> {
-    generator::decide_cases(SEED, CASES)
+    unrefused(generator::decide_cases(SEED, CASES))
+        .chain(unrefused(generator::derived_decide_cases(SEED, CASES)))
+}
+
+/// Those of the cases that aren't refused, with their decision.
+fn unrefused(
+    cases: impl Iterator<Item = DecideCase>,
+) -> impl Iterator<Item = (DecideCase, Decision)> {
+    cases
         .map(|case| {
             let decision = decide_case(&case);
             (case, decision)
@@ -121,16 +129,79 @@ fn the_heaviest_match_decides() {
     }
 }
 
-/// A pattern's weight: the parts between its stars, normalised as paths.
+/// Files that are made from the path: in most several rules apply and match, so
+/// that their weights, sides and lines decide.
+#[test]
+fn derived_files_have_several_matches() {
+    let rows = [
+        "decided by a rule",
+        "several rules match",
+        "rules of both sides match",
+        "the heaviest on both sides are equal",
+        "the heaviest on one side are equal",
+        "several groups name the crawler",
+    ];
+    let mut counts = [0; 6];
+    let mut cases = 0;
+    for (case, decision) in unrefused(generator::derived_decide_cases(SEED, CASES)) {
+        cases += 1;
+        let lines = told(&case.file);
+        let mut heaviest = [Vec::new(), Vec::new()];
+        for rule in applying(&lines, &case.name) {
+            if match_pattern(&rule.value, &case.path).found {
+                heaviest[usize::from(rule.kind == 10)].push(weight(&rule.value));
+            }
+        }
+        let [allow, disallow] = heaviest.map(|mut weights| {
+            weights.sort_by(|one, other| other.cmp(one));
+            weights
+        });
+        let equal = |weights: &[usize]| weights.len() > 1 && weights[0] == weights[1];
+        let occurs = [
+            decision.line > 0,
+            allow.len() + disallow.len() > 1,
+            !allow.is_empty() && !disallow.is_empty(),
+            !allow.is_empty() && allow.first() == disallow.first(),
+            equal(&allow) || equal(&disallow),
+            groups_naming(&lines, &case.name) > 1,
+        ];
+        for (count, occurs) in counts.iter_mut().zip(occurs) {
+            *count += usize::from(occurs);
+        }
+    }
+    for ((row, count), least) in rows.iter().zip(counts).zip([60, 40, 30, 10, 15, 30]) {
+        println!("{count:>8} of {cases}  {row}");
+        assert!(100 * count > least * cases, "{row}: {count} of {cases}");
+    }
+}
+
+/// How many groups name this one.
+fn groups_naming(lines: &[Told], name: &[u8]) -> usize {
+    let mut groups = 0;
+    let mut named = false;
+    let mut rule_before = true;
+    for line in lines
+        .iter()
+        .filter(|line| line.is_agent() || line.is_rule())
+    {
+        named &= !(line.is_agent() && rule_before);
+        if line.names(name) && !named {
+            named = true;
+            groups += 1;
+        }
+        rule_before = line.is_rule();
+    }
+    groups
+}
+
+/// A pattern's weight: a star weighs 1, and in a path it is three octets.
 fn weight(pattern: &[u8]) -> usize {
     let (part, end_mark) = match pattern {
         [part @ .., b'$'] => (part, 1),
         _ => (pattern, 0),
     };
-    let parts = part.split(|octet| *octet == b'*');
-    // Each part but the first has a star before it, for which "/" stands.
-    let octets: usize = parts.map(|part| normal(&[b"/", part].concat()).len()).sum();
-    octets - 1 + end_mark
+    let stars = part.iter().filter(|octet| **octet == b'*').count();
+    generator::normal_length(part) - 2 * stars + end_mark
 }
 
 /// The readable rules that apply to the crawler.

@@ -1,7 +1,4 @@
-mod Answering
 mod Due
 mod Endings
 pub mod Forward
-mod Kinding
-mod Rows
-mod Trims
+pub mod Trims

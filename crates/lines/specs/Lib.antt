@@ -1,4 +1,3 @@
 pub mod Due
-pub mod Fields
 pub mod Parts
 pub mod Spans

@@ -3,10 +3,10 @@
 ghost use mathlib.Core.Path.{_≡_};
 ghost use Prim.Native.Nat.{_+_};
 ghost use lib.ListN.{length, drop};
-ghost use Rattle.lists.specs.Lists.{upTo};
+ghost use Rattle.lists.specs.Lists.{any, upTo};
 ghost use Rattle.protocol.specs.Text.{lead, trimEnd};
 ghost use Rattle.protocol.specs.Lines.{lineText};
-ghost use Rattle.lines.specs.Parts.{equals, trimmedPart};
+ghost use Rattle.lines.specs.Parts.{equals, low, trimmedPart};
 
 // A part of a text: from `start` on, up to `end`.
 pub struct Part {
@@ -28,11 +28,45 @@ pub fn find(s: &[u8], x: u8) -> usize
     i
 }
 
+// Some octet is no greater than CR. All are looked at, by one comparison each, so that the compiler can look at many at a time.
+fn holds_low(s: &[u8]) -> bool
+    ensures { λ r. ⌜ r ≡ any low (now (s .entry)) ⌝ }
+{
+    let mut found = false;
+    let mut i = 0;
+    while i < s.len() {
+        if s[i] <= b'\r' {
+            found = true;
+        }
+        i += 1;
+    }
+    found
+}
+
+// A place as far on as whole blocks of 16 octets go in which no line ends.
+fn past_blocks(s: &[u8], from: usize) -> usize
+    ensures { λ r. ⌜ r + length (lineText (drop r (now (s .entry)))) ≡ from + length (lineText (drop from (now (s .entry)))) ⌝ }
+{
+    if s.len() < 16 {
+        return from;
+    }
+    let last = s.len() - 16;
+    let mut i = from;
+    while i <= last {
+        let end = i + 16;
+        if holds_low(&s[i..end]) {
+            return i;
+        }
+        i = end;
+    }
+    i
+}
+
 // The place of the first CR or LF from `from` on, or the text's end.
 pub fn line_end(s: &[u8], from: usize) -> usize
     ensures { λ r. ⌜ r ≡ from + length (lineText (drop from (now (s .entry)))) ⌝ }
 {
-    let mut i = from;
+    let mut i = past_blocks(s, from);
     while i < s.len() {
         if octets::is_line_end(s[i]) {
             return i;

@@ -1,5 +1,6 @@
 pub mod Bools
 pub mod Fronts
+pub mod Members
 pub mod Numbers
 pub mod Parts
 pub mod Places

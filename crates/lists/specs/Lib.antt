@@ -1,3 +1,4 @@
+pub mod Ascending
 pub mod Choice
 pub mod Each
 pub mod Lists

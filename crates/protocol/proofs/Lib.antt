@@ -13,3 +13,10 @@ pub mod Leftmost
 pub mod Starts
 pub mod Found
 pub mod MatchAnswer
+pub mod Refused
+pub mod Answered
+pub mod Applying
+pub mod Ascending
+pub mod Deciding
+pub mod Decided
+pub mod Demands

@@ -5,7 +5,7 @@ use mathlib.Core.Bool.{Bool, false, and-false}
 use mathlib.Core.List.{List, [], _∷_}
 use native.Mathlib.Omega.{arith}
 use lib.ListN.{length, take, drop, length-take, length-drop}
-use Rattle.lists.specs.Choice.{if_then_else_}
+use Rattle.lists.specs.Choice.{oneIf}
 use Rattle.lists.specs.Lists.{empty, total}
 use Rattle.lists.specs.Each.{Each}
 use Rattle.lists.proofs.Parts.{total-append}
@@ -20,10 +20,6 @@ use Rattle.protocol.specs.Entries.{roleOf, groupAt, ruledAfter, placeInF
 use Rattle.protocol.specs.Rules.{valueOf, unreadable, unread}
 use Rattle.protocol.proofs.Values.{Says, kind-says}
 use Rattle.protocol.proofs.Inside.{InFile, lines-inside, value-in-file}
-
--- 1 for a line of an unreadable kind
-abbrev pub oneIf : Bool → ℕ
-oneIf b = if b then 1 else 0
 
 some-octet : (line : List ℕ) (p : Place) (n : ℕ) → p .offset + n ≤ length line → 0 < n → empty (octetsAt line p n) ≡ false
 unfolding octetsAt

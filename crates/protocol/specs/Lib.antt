@@ -13,6 +13,7 @@ pub mod Starts
 pub mod Refusals
 pub mod Decision
 pub mod Answers
+pub mod Meaning
 pub mod Program
 pub mod Examples
 pub mod OwnExamples

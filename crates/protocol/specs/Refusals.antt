@@ -71,8 +71,11 @@ refusal (r ∷ rows) = if r .given then r .number else refusal rows
 abbrev pub pathRows : List ℕ → List Row
 pathRows path = badLength path ∷ badStart path ∷ badOctet path ∷ []
 
+abbrev pub decideRows : List ℕ → List ℕ → List ℕ → List Row
+decideRows file name path = tooLong file ∷ badName name ∷ pathRows path
+
 unfoldable pub decideRefusal : List ℕ → List ℕ → List ℕ → ℕ
-decideRefusal file name path = refusal (tooLong file ∷ badName name ∷ pathRows path)
+decideRefusal file name path = refusal (decideRows file name path)
 
 unfoldable pub matchRefusal : List ℕ → List ℕ → ℕ
 matchRefusal pattern path = refusal (tooLong pattern ∷ pathRows path ++ (badPattern pattern ∷ []))

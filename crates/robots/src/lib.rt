@@ -5,11 +5,80 @@ ghost use mathlib.Core.Path.{_≡_};
 ghost use mathlib.Core.Logic.{_↔_};
 ghost use Prim.Native.Nat.{_*_, _≤_};
 ghost use lib.ListN.{length};
+ghost use Rattle.lists.specs.Lists.{total};
 ghost use Rattle.protocol.specs.Normal.{normalPath};
 ghost use Rattle.protocol.specs.Pattern.{shapeOf, weight};
 ghost use Rattle.protocol.specs.Matching.{Matches};
-ghost use Rattle.protocol.specs.Refusals.{matchRefusal, normaliseRefusal, lineRefusal};
-ghost use Rattle.protocol.specs.Answers.{matchOf, foundNumber, normaliseOf, normaliseBuffer, lineAnswer, kindNumberOf, valuePlace, valueLength};
+ghost use Rattle.protocol.specs.Refusals.{decideRows, matchRefusal, normaliseRefusal, lineRefusal};
+ghost use Rattle.protocol.specs.Decision.{weightOf};
+ghost use Rattle.protocol.specs.Meaning.{ByTable, Shut, walkedRules};
+ghost use Rattle.protocol.specs.Answers.{decide, sideNumber, matchOf, foundNumber, normaliseOf, normaliseBuffer, lineAnswer, kindNumberOf, valuePlace, valueLength};
+
+// Why a decision is refused, by the table of refusals: 0 where it isn't.
+#[no_mangle]
+pub extern "C" fn robots_decide_refusal(file: &[u8], name: &[u8], path: &[u8]) -> usize
+    ensures { λ r. ⌜ r ≡ decide (now (file .entry)) (now (name .entry)) (now (path .entry)) .refusal ⌝ }
+    ensures { λ r. ⌜ ByTable (decideRows (now (file .entry)) (now (name .entry)) (now (path .entry))) r ⌝ }
+{
+    decide::answers::decide_refusal(file, name, path)
+}
+
+// 0 where the path is allowed, 1 where it is disallowed. A refused decision is 1: it fails shut.
+#[no_mangle]
+pub extern "C" fn robots_decide_disallow(file: &[u8], name: &[u8], path: &[u8]) -> usize
+    ensures { λ r. ⌜ r ≡ sideNumber (decide (now (file .entry)) (now (name .entry)) (now (path .entry)) .side) ⌝ }
+    ensures { λ r. ⌜ (r ≡ 1) ↔ Shut (now (file .entry)) (now (name .entry)) (now (path .entry)) ⌝ }
+{
+    let answer = decide::answers::decide(file, name, path);
+    let side = answer.side;
+    decide::answers::side_number(side)
+}
+
+// The line of the rule that decided, counted from 1: 0 where none did.
+#[no_mangle]
+pub extern "C" fn robots_decide_line(file: &[u8], name: &[u8], path: &[u8]) -> usize
+    ensures { λ r. ⌜ r ≡ decide (now (file .entry)) (now (name .entry)) (now (path .entry)) .line .number ⌝ }
+{
+    let answer = decide::answers::decide(file, name, path);
+    answer.line.number
+}
+
+// Where that rule's pattern begins in the file, counted from 0: 0 where none decided.
+#[no_mangle]
+pub extern "C" fn robots_decide_place(file: &[u8], name: &[u8], path: &[u8]) -> usize
+    ensures { λ r. ⌜ r ≡ decide (now (file .entry)) (now (name .entry)) (now (path .entry)) .place .offset ⌝ }
+{
+    let answer = decide::answers::decide(file, name, path);
+    answer.place.offset
+}
+
+// How many octets that pattern has: 0 where none decided.
+#[no_mangle]
+pub extern "C" fn robots_decide_length(file: &[u8], name: &[u8], path: &[u8]) -> usize
+    ensures { λ r. ⌜ r ≡ decide (now (file .entry)) (now (name .entry)) (now (path .entry)) .length ⌝ }
+{
+    let answer = decide::answers::decide(file, name, path);
+    answer.length
+}
+
+// The unreadable agent and rule lines of the whole file.
+#[no_mangle]
+pub extern "C" fn robots_decide_unread(file: &[u8], name: &[u8], path: &[u8]) -> usize
+    ensures { λ r. ⌜ r ≡ decide (now (file .entry)) (now (name .entry)) (now (path .entry)) .unread ⌝ }
+{
+    let answer = decide::answers::decide(file, name, path);
+    answer.unread
+}
+
+// The pairs of octets that the walks of the applying rules compare, at most their summed weights times the octets of the normalised path.
+#[no_mangle]
+pub extern "C" fn robots_decide_compared(file: &[u8], name: &[u8], path: &[u8]) -> usize
+    ensures { λ r. ⌜ r ≡ decide (now (file .entry)) (now (name .entry)) (now (path .entry)) .compared ⌝ }
+    ensures { λ r. ⌜ r ≤ total (weightOf (now (file .entry))) (walkedRules (now (file .entry)) (now (name .entry))) * length (normalPath (now (path .entry))) ⌝ }
+{
+    let answer = decide::answers::decide(file, name, path);
+    answer.compared
+}
 
 // Why a match is refused: 0 where it isn't.
 #[no_mangle]
@@ -63,23 +132,23 @@ pub extern "C" fn robots_normalise_refusal(path: &[u8], room: usize) -> usize
 pub extern "C" fn robots_line_refusal(line: &[u8]) -> usize
     ensures { λ r. ⌜ r ≡ lineRefusal (now (line .entry)) ⌝ }
 {
-    lines::answers::line_refusal(line)
+    kinds::answers::line_refusal(line)
 }
 
 #[no_mangle]
 pub extern "C" fn robots_line_kind(line: &[u8]) -> usize
     ensures { λ r. ⌜ r ≡ kindNumberOf (lineAnswer (now (line .entry))) ⌝ }
 {
-    let answer = lines::answers::line_answer(line);
-    lines::answers::kind_number_of(answer)
+    let answer = kinds::answers::line_answer(line);
+    kinds::answers::kind_number_of(answer)
 }
 
 #[no_mangle]
 pub extern "C" fn robots_line_place(line: &[u8]) -> usize
     ensures { λ r. ⌜ r ≡ valuePlace (lineAnswer (now (line .entry))) .offset ⌝ }
 {
-    let answer = lines::answers::line_answer(line);
-    let place = lines::answers::value_place(answer);
+    let answer = kinds::answers::line_answer(line);
+    let place = kinds::answers::value_place(answer);
     place.offset
 }
 
@@ -87,6 +156,6 @@ pub extern "C" fn robots_line_place(line: &[u8]) -> usize
 pub extern "C" fn robots_line_length(line: &[u8]) -> usize
     ensures { λ r. ⌜ r ≡ valueLength (lineAnswer (now (line .entry))) ⌝ }
 {
-    let answer = lines::answers::line_answer(line);
-    lines::answers::value_length(answer)
+    let answer = kinds::answers::line_answer(line);
+    kinds::answers::value_length(answer)
 }

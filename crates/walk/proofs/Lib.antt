@@ -1,6 +1,6 @@
 mod Cuts
 mod Marked
 mod Refusing
-mod Scratch
+pub mod Scratch
 mod Turns
 mod Weighing

@@ -1,15 +1,27 @@
 //! Written-down and generated questions.
 
-use std::collections::BTreeSet;
+use std::collections::{BTreeMap, BTreeSet};
 
+use evaluator::Decision;
 use generator::SEED;
 
 use crate::ask::{check_line, check_match, check_path, check_room};
+use crate::deciding::check_decide;
 
+/// Of each of two sorts.
+const DECISIONS: usize = 110_000;
+const LONG_DECISIONS: usize = 240;
 const LINES: usize = 150_000;
 const PATHS: usize = 120_000;
 /// Of each of the two sorts.
 const MATCHES: usize = 150_000;
+
+#[test]
+fn every_written_down_decision() {
+    for case in generator::decide_edges() {
+        check_decide(&case.file, &case.name, &case.path);
+    }
+}
 
 #[test]
 fn every_written_down_line() {
@@ -30,6 +42,49 @@ fn every_written_down_match() {
     for case in generator::match_edges() {
         check_match(&case.pattern, &case.path);
     }
+}
+
+/// What a decision is counted as.
+fn sort(decision: &Decision) -> String {
+    match decision {
+        Decision { refusal: 1.., .. } => format!("refusal {}", decision.refusal),
+        Decision { line: 0, .. } => "allow by no rule".to_string(),
+        Decision { disallow: true, .. } => "disallow".to_string(),
+        Decision { .. } => "allow by a rule".to_string(),
+    }
+}
+
+/// All refusals and all sorts of answers are well represented.
+#[test]
+fn many_generated_decisions() {
+    let cases = generator::decide_cases(SEED, DECISIONS)
+        .chain(generator::derived_decide_cases(SEED, DECISIONS))
+        .chain(generator::long_decide_cases(SEED, LONG_DECISIONS));
+    let mut seen: BTreeMap<String, usize> = BTreeMap::new();
+    let (mut unread, mut dear) = (0, 0);
+    for case in cases {
+        let decision = check_decide(&case.file, &case.name, &case.path);
+        *seen.entry(sort(&decision)).or_default() += 1;
+        unread += usize::from(decision.unread > 0);
+        dear += usize::from(decision.compared > case.path.len());
+    }
+    println!("{seen:?}, {unread} with unread lines, {dear} compared more than the path's octets");
+    let questions: usize = seen.values().sum();
+    assert!(questions >= 200_000, "{questions} questions");
+    for (sort, least) in [
+        ("allow by no rule", 50_000),
+        ("allow by a rule", 50_000),
+        ("disallow", 50_000),
+        ("refusal 1", 100),
+        ("refusal 2", 5_000),
+        ("refusal 3", 2_000),
+        ("refusal 4", 2_000),
+        ("refusal 5", 2_000),
+    ] {
+        let count = seen.get(sort).copied().unwrap_or(0);
+        assert!(count >= least, "{sort}: {count}, less than {least}");
+    }
+    assert!(unread > 50_000 && dear > 10_000, "{unread}, {dear}");
 }
 
 /// Every kind and every refusal of a short line is among them.

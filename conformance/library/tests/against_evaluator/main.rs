@@ -2,6 +2,14 @@
 //! evaluator and the examples of the sources.
 
 mod ask;
+mod decide_files;
+mod decide_groups;
+mod decide_limits;
+mod decide_memory;
+mod decide_octets;
+mod decide_refusals;
+mod deciding;
+mod definition_rows;
 mod generated;
 mod limits;
 mod line_octets;
@@ -9,6 +17,7 @@ mod match_limits;
 mod match_refusals;
 mod path_octets;
 mod pattern_octets;
+mod small_files;
 mod small_patterns;
 mod source_examples;
 mod texts;

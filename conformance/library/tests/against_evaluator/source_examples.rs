@@ -4,13 +4,36 @@
 use examples::{Expected, Question};
 
 use crate::ask;
+use crate::deciding::{check_decide, question_shown};
 use crate::texts::MOST_NORMALISED;
 
-/// How many rows ask for a normalised path, for a line's kind, and for a
-/// match.
+/// How many rows ask for a decision, for a normalised path, for a line's kind,
+/// and for a match.
+const DECIDE_ROWS: usize = 155;
 const NORMALISE_ROWS: usize = 16;
 const LINE_ROWS: usize = 29;
 const MATCH_ROWS: usize = 89;
+
+#[test]
+fn every_example_of_a_decision() {
+    let mut rows = 0;
+    for row in examples::all().unwrap_or_else(|fault| panic!("{fault}")) {
+        let (Question::Decide { file, name, path }, Expected::Decide(expected)) =
+            (&row.question, &row.expected)
+        else {
+            continue;
+        };
+        rows += 1;
+        assert_eq!(
+            check_decide(file, name, path),
+            *expected,
+            "{}: {}",
+            row.id,
+            question_shown(file, name, path)
+        );
+    }
+    assert_eq!(rows, DECIDE_ROWS, "rows that ask for a decision");
+}
 
 #[test]
 fn every_example_of_normalising() {

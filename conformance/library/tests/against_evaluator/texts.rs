@@ -1,6 +1,8 @@
 //! The limits, octets beside those of UTF-8, long texts, and texts inside larger
 //! memory.
 
+pub const MOST_FILE: usize = 512_000;
+pub const MOST_NAME: usize = 64;
 pub const MOST_LINE: usize = 512_000;
 pub const MOST_PATTERN: usize = 512_000;
 pub const MOST_PATH: usize = 2_048;

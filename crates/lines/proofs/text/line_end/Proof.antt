@@ -15,8 +15,11 @@ Inv-loop s from i₀ i = i + length (upTo lineEnd (drop i s)) ≡ from + length 
 abbrev μ-loop : tie.MeasureT-loop
 μ-loop s from i₀ i = length s - i
 
+past-blocks-requires : tie.Need-past-blocks-requires Inv-loop μ-loop
+past-blocks-requires c κs = tt
+
 loop-holds : tie.Need-loop-holds Inv-loop μ-loop
-loop-holds c = omega arith
+loop-holds c = c .past-blocks .ensures
 
 shared-slice-read-is-line-end : tie.Need-shared-slice-read-is-line-end Inv-loop μ-loop
 shared-slice-read-is-line-end c = omega arith
@@ -27,7 +30,7 @@ is-line-end-requires c κs = tt
 returns : tie.Need-returns Inv-loop μ-loop
 returns c =
     let s = c .before .before .before .before in
-    let a = s .before .before .args in
+    let a = s .before .before .before .args in
     omega (arith, s .loop .inv, scan-stop lineEnd (a .s .now) (s .loop .i) 0 (omega arith) (sym (c .before .is-line-end .ensures) ∙ c .if1 .taken))
 
 add-i : tie.Need-add-i Inv-loop μ-loop
@@ -39,13 +42,13 @@ loop-less c = omega arith
 loop-again : tie.Need-loop-again Inv-loop μ-loop
 loop-again c =
     let s = c .before .before .before .before in
-    let a = s .before .before .args in
+    let a = s .before .before .before .args in
     omega (arith, s .loop .inv, scan-on lineEnd (a .s .now) (s .loop .i) 0 (omega arith) (sym (c .before .is-line-end .ensures) ∙ c .if1 .left))
 
 returns-2 : tie.Need-returns-2 Inv-loop μ-loop
 returns-2 c =
     let s = c .before in
-    let a = s .before .before .args in
+    let a = s .before .before .before .args in
     omega (arith, s .loop .inv, scan-none lineEnd (a .s .now) (s .loop .i) 0 (omega arith))
 
 pub line-end-spec : {M : Type 1} → statement M
@@ -54,6 +57,7 @@ line-end-spec =
     (tie.spec
     Inv-loop
     μ-loop
+    past-blocks-requires
     loop-holds
     shared-slice-read-is-line-end
     is-line-end-requires

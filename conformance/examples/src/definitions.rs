@@ -1,0 +1,225 @@
+//! The rows of Examples.antt and OwnExamples.antt in crates/protocol/specs,
+//! for which the definitions are proved to compute the given answers.
+
+use evaluator::{Decision, LineKind, Matched};
+
+use crate::rows::{self, Row, Scanner};
+
+const FILES: [&str; 2] = ["Examples.antt", "OwnExamples.antt"];
+
+/// The sorts of rows that are questions, and how many there are of each.
+pub const SORTS: [(&str, usize); 8] = [
+    ("row", 56),
+    ("rowIn", 5),
+    ("sizes", 4),
+    ("run", 8),
+    ("located", 5),
+    ("lineRow", 43),
+    ("matchRow", 15),
+    ("normalRow", 12),
+];
+
+/// A row of a table, with the answer that is written there.
+#[derive(Debug, Clone, PartialEq, Eq)]
+pub struct DefinitionRow {
+    /// File, line and text of the row, for a message.
+    pub place: String,
+    /// One of [`SORTS`].
+    pub sort: String,
+    pub asked: Asked,
+}
+
+/// A question and what the row tells of its answer.
+#[derive(Debug, Clone, PartialEq, Eq)]
+pub enum Asked {
+    Decide {
+        file: Vec<u8>,
+        name: Vec<u8>,
+        path: Vec<u8>,
+        told: Told,
+    },
+    Program {
+        input: Vec<u8>,
+        output: Vec<u8>,
+    },
+    Line {
+        line: Vec<u8>,
+        expected: LineKind,
+    },
+    Match {
+        pattern: Vec<u8>,
+        path: Vec<u8>,
+        expected: Matched,
+    },
+    /// The buffer is what it holds before and behind the call.
+    Normalise {
+        path: Vec<u8>,
+        buffer: [Vec<u8>; 2],
+        refusal: usize,
+        written: usize,
+    },
+}
+
+/// The numbers of a decision that a row has.
+#[derive(Debug, Clone, PartialEq, Eq)]
+pub enum Told {
+    Refusal(usize),
+    /// Refusal, disallow, line, unread and compared.
+    Answer([usize; 5]),
+    /// Place and length of the deciding pattern.
+    Octets([usize; 2]),
+}
+
+impl Told {
+    /// The same numbers of this decision.
+    pub fn of(&self, decision: &Decision) -> Told {
+        match self {
+            Told::Refusal(_) => Told::Refusal(decision.refusal),
+            Told::Answer(_) => Told::Answer([
+                decision.refusal,
+                usize::from(decision.disallow),
+                decision.line,
+                decision.unread,
+                decision.compared,
+            ]),
+            Told::Octets(_) => Told::Octets([decision.place, decision.length]),
+        }
+    }
+}
+
+/// All rows of both files that are questions, in order. What can't be read is
+/// a panic.
+pub fn definition_rows() -> Vec<DefinitionRow> {
+    let specs = concat!(env!("CARGO_MANIFEST_DIR"), "/../../crates/protocol/specs");
+    let sorts = SORTS.map(|(sort, _)| sort);
+    let read = |file| {
+        let text = std::fs::read_to_string(format!("{specs}/{file}"));
+        let text = text.unwrap_or_else(|fault| panic!("{file}: {fault}"));
+        rows::read(file, &text, &sorts)
+    };
+    FILES.into_iter().flat_map(read).map(scanned).collect()
+}
+
+fn scanned(row: Row) -> DefinitionRow {
+    let mut rest = Scanner::new(&row.text);
+    let sort = rest.word();
+    let asked = match sort.as_str() {
+        "row" => {
+            let file = rest.text_of_lines();
+            decide(&mut rest, file)
+        }
+        "rowIn" => {
+            let file = rest.octets();
+            decide(&mut rest, file)
+        }
+        "sizes" => sizes(&mut rest),
+        "run" => run(&mut rest),
+        "located" => located(&mut rest),
+        "lineRow" => line(&mut rest),
+        "matchRow" => match_pattern(&mut rest),
+        "normalRow" => normalise(&mut rest),
+        other => panic!("an unknown sort of row: {other}"),
+    };
+    rest.end();
+    let place = format!("{}:{}: {}", row.file, row.line, row.text);
+    DefinitionRow { place, sort, asked }
+}
+
+/// A row of document 01's table or of ours: file, name, path, answer.
+fn decide(row: &mut Scanner, file: Vec<u8>) -> Asked {
+    let (name, path) = (row.text(), row.text());
+    let told = match row.answer() {
+        (word, numbers) if word == "refused" => {
+            let [refusal] = numbers[..] else {
+                panic!("refused wants one number, not {numbers:?}")
+            };
+            Told::Answer([refusal, 1, 0, 0, 0])
+        }
+        (word, numbers) => {
+            let [line, unread, compared] = numbers[..] else {
+                panic!("{word} wants three numbers, not {numbers:?}")
+            };
+            Told::Answer([0, disallow(&word), line, unread, compared])
+        }
+    };
+    Asked::Decide {
+        file,
+        name,
+        path,
+        told,
+    }
+}
+
+fn disallow(word: &str) -> usize {
+    match word {
+        "allow" => 0,
+        "disallow" => 1,
+        other => panic!("neither allow nor disallow: {other}"),
+    }
+}
+
+/// Octets of "x" as name, and behind a "/" as path; refusal.
+fn sizes(row: &mut Scanner) -> Asked {
+    Asked::Decide {
+        file: Vec::new(),
+        name: vec![b'x'; row.number()],
+        path: [b"/".to_vec(), vec![b'x'; row.number()]].concat(),
+        told: Told::Refusal(row.number()),
+    }
+}
+
+/// The program's input and output.
+fn run(row: &mut Scanner) -> Asked {
+    Asked::Program {
+        input: row.octets(),
+        output: row.text(),
+    }
+}
+
+/// File, path, place and length of the deciding pattern, for the name a.
+fn located(row: &mut Scanner) -> Asked {
+    Asked::Decide {
+        file: row.octets(),
+        name: b"a".to_vec(),
+        path: row.text(),
+        told: Told::Octets([row.number(), row.number()]),
+    }
+}
+
+/// Line, refusal, kind, place, length.
+fn line(row: &mut Scanner) -> Asked {
+    Asked::Line {
+        line: row.octets(),
+        expected: LineKind {
+            refusal: row.number(),
+            kind: row.number(),
+            place: row.number(),
+            length: row.number(),
+        },
+    }
+}
+
+/// Pattern, path, refusal, yes or no, count.
+fn match_pattern(row: &mut Scanner) -> Asked {
+    Asked::Match {
+        pattern: row.text(),
+        path: row.text(),
+        expected: Matched {
+            refusal: row.number(),
+            found: row.truth(),
+            compared: row.number(),
+        },
+    }
+}
+
+/// Path, buffer, refusal, octets written, what the buffer holds then.
+fn normalise(row: &mut Scanner) -> Asked {
+    let (path, before) = (row.octets(), row.text());
+    let (refusal, written) = (row.number(), row.number());
+    Asked::Normalise {
+        path,
+        buffer: [before, row.text()],
+        refusal,
+        written,
+    }
+}

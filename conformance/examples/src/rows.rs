@@ -1,0 +1,174 @@
+//! Reads the rows of the definitions' tables: one row to a line, moved in by
+//! four spaces, behind `∷` but for the first.
+
+/// A row and where it stands.
+pub struct Row {
+    pub file: &'static str,
+    pub line: usize,
+    pub text: String,
+}
+
+impl Row {
+    /// The row's first word.
+    pub fn sort(&self) -> &str {
+        self.text.split(' ').next().unwrap_or("")
+    }
+}
+
+/// The rows of these sorts.
+pub fn read(file: &'static str, text: &str, sorts: &[&str]) -> Vec<Row> {
+    let numbered = text.lines().enumerate();
+    numbered
+        .filter_map(|(at, line)| {
+            let inner = line.strip_prefix("    ")?;
+            let text = inner.strip_prefix("∷ ").unwrap_or(inner).to_string();
+            let line = at + 1;
+            let row = Row { file, line, text };
+            sorts.contains(&row.sort()).then_some(row)
+        })
+        .collect()
+}
+
+/// Takes a row apart from the left. What doesn't fit is a panic.
+pub struct Scanner<'a> {
+    left: &'a str,
+}
+
+impl<'a> Scanner<'a> {
+    pub fn new(row: &'a str) -> Self {
+        Scanner { left: row }
+    }
+
+    fn skip(&mut self, token: &str) -> bool {
+        self.left = self.left.trim_start();
+        match self.left.strip_prefix(token) {
+            Some(rest) => {
+                self.left = rest;
+                true
+            }
+            None => false,
+        }
+    }
+
+    fn expect(&mut self, token: &str) {
+        assert!(self.skip(token), "{token} expected at: {}", self.left);
+    }
+
+    pub fn end(&mut self) {
+        assert_eq!(self.left.trim(), "", "the row should end here");
+    }
+
+    /// A name, a numeral or a keyword.
+    pub fn word(&mut self) -> String {
+        self.left = self.left.trim_start();
+        let ends = |c: char| c == ' ' || c == '(' || c == ')';
+        let (word, rest) = self
+            .left
+            .split_at(self.left.find(ends).unwrap_or(self.left.len()));
+        self.left = rest;
+        word.to_string()
+    }
+
+    pub fn number(&mut self) -> usize {
+        let word = self.word().replace('_', "");
+        let number = match word.strip_prefix("0x") {
+            Some(hex) => usize::from_str_radix(hex, 16),
+            None => word.parse(),
+        };
+        number.unwrap_or_else(|_| panic!("a number expected, not {word}"))
+    }
+
+    /// `true` or `false`.
+    pub fn truth(&mut self) -> bool {
+        let word = self.word();
+        word.parse()
+            .unwrap_or_else(|_| panic!("true or false expected, not {word}"))
+    }
+
+    /// A text in quotation marks, of ASCII.
+    pub fn text(&mut self) -> Vec<u8> {
+        self.expect("\"");
+        let mut octets = Vec::new();
+        let mut chars = self.left.char_indices();
+        while let Some((at, c)) = chars.next() {
+            let octet = match c {
+                '"' => {
+                    self.left = &self.left[at + 1..];
+                    return octets;
+                }
+                '\\' => escaped(chars.next().map(|(_, c)| c)),
+                c if c.is_ascii() => c as u8,
+                c => panic!("{c} is not ASCII"),
+            };
+            octets.push(octet);
+        }
+        panic!("a text has no end: {}", self.left);
+    }
+
+    /// A text in which "|" ends a line.
+    pub fn text_of_lines(&mut self) -> Vec<u8> {
+        let line_feed = |octet| if octet == b'|' { b'\n' } else { octet };
+        self.text().into_iter().map(line_feed).collect()
+    }
+
+    /// Octets: `[]`, `mark`, `octets "…"`, `lines "…"`, `many 9` (so many of
+    /// "x"), or some of these and lists of numerals in parentheses, joined by
+    /// `++`.
+    pub fn octets(&mut self) -> Vec<u8> {
+        if self.skip("(") {
+            let octets = self.joined();
+            self.expect(")");
+            return octets;
+        }
+        match self.word().as_str() {
+            "[]" => Vec::new(),
+            "mark" => vec![0xEF, 0xBB, 0xBF],
+            "octets" => self.text(),
+            "lines" => self.text_of_lines(),
+            "many" => vec![b'x'; self.number()],
+            other => panic!("octets expected, not {other}"),
+        }
+    }
+
+    fn joined(&mut self) -> Vec<u8> {
+        if self.left.starts_with(|c: char| c.is_ascii_digit()) {
+            return self.list();
+        }
+        let mut octets = self.octets();
+        while self.skip("++") {
+            octets.extend(self.octets());
+        }
+        octets
+    }
+
+    /// `0x7F ∷ 0xC2 ∷ []`
+    fn list(&mut self) -> Vec<u8> {
+        let mut octets = Vec::new();
+        while !self.skip("[]") {
+            octets.push(u8::try_from(self.number()).expect("an octet"));
+            self.expect("∷");
+        }
+        octets
+    }
+
+    /// `(allow 0 0 0)`, `(disallow 2 0 1)` or `(refused 3)`.
+    pub fn answer(&mut self) -> (String, Vec<usize>) {
+        self.expect("(");
+        let word = self.word();
+        let mut numbers = Vec::new();
+        while !self.skip(")") {
+            numbers.push(self.number());
+        }
+        (word, numbers)
+    }
+}
+
+fn escaped(c: Option<char>) -> u8 {
+    match c {
+        Some('n') => b'\n',
+        Some('r') => b'\r',
+        Some('t') => b'\t',
+        Some('0') => 0,
+        other => panic!("an unknown escape: {other:?}"),
+    }
+}

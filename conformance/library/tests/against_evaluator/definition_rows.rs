@@ -1,0 +1,50 @@
+//! The rows of the definitions' tables: document 01's and ours.
+
+use examples::{definition_rows, Asked};
+
+use crate::ask;
+use crate::deciding::check_decide;
+
+/// How many rows ask the library: all but those of the program.
+const ROWS: usize = 140;
+
+/// Whether the row asks the library.
+fn check(asked: &Asked) -> bool {
+    match asked {
+        Asked::Decide {
+            file,
+            name,
+            path,
+            told,
+        } => assert_eq!(told.of(&check_decide(file, name, path)), *told),
+        Asked::Line { line, expected } => assert_eq!(ask::line(line), *expected),
+        Asked::Match {
+            pattern,
+            path,
+            expected,
+        } => assert_eq!(ask::matched(pattern, path), *expected),
+        Asked::Normalise {
+            path,
+            buffer: [before, after],
+            refusal,
+            written,
+        } => {
+            let mut buffer = before.clone();
+            assert_eq!(library::normalise(path, &mut buffer), *written);
+            assert_eq!(library::normalise_refusal(path, before.len()), *refusal);
+            assert_eq!(buffer, *after);
+        }
+        Asked::Program { .. } => return false,
+    }
+    true
+}
+
+#[test]
+fn the_library_gives_every_row_of_the_definitions() {
+    let mut rows = 0;
+    for row in definition_rows() {
+        println!("{}", row.place);
+        rows += usize::from(check(&row.asked));
+    }
+    assert_eq!(rows, ROWS, "rows that ask the library");
+}

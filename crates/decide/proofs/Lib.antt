@@ -1,0 +1,9 @@
+pub mod Bounds
+pub mod Groups
+pub mod Naming
+pub mod Spans
+pub mod Tallied
+mod Asking
+mod Refusing
+mod Stepping
+mod Walking

@@ -1,0 +1,3 @@
+mod Answering
+mod Kinding
+mod Rows

@@ -1,0 +1,210 @@
+-- Demand 2 about a path that isn't refused, from any entries: which rule is named, and when the answer is disallow. Assumes nothing.
+use Prim.Native.Nat.{ℕ, _≤_, _<_}
+use mathlib.Core.Path.{_≡_, refl, sym, ap, _∙_}
+use mathlib.Core.Bool.{Bool, true, false, _&&_, true≢false}
+use mathlib.Core.Logic.{_↔_, _⊎_, inl, inr, ⊎-elim}
+use mathlib.Core.List.{List, _∷_, List·Memᴰ, List·Memᴰ·head, List·Memᴰ·cases-cons, List·Memᴰ·append-cases, Memᴰ·append-right}
+use mathlib.Core.Option.{Option, none, some}
+use native.Mathlib.Omega.{arith}
+use Rattle.lists.specs.Ascending.{Ascending}
+use Rattle.lists.specs.Each.{Each}
+use Rattle.lists.proofs.Bools.{split, and-left, and-right}
+use Rattle.lists.proofs.Members.{each-member, kept-kept, ascending-member, ascending-behind}
+use Rattle.protocol.specs.declared.LineNumber.{LineNumber}
+use Rattle.protocol.specs.declared.Side.{Side}
+use Rattle.protocol.specs.declared.Decision.{Decision}
+use Rattle.protocol.specs.Lines.{lineNumber}
+use Rattle.protocol.specs.Readable.{readablePattern}
+use Rattle.protocol.specs.Entries.{Entry}
+use Rattle.protocol.specs.Rules.{Rule, applying, unread}
+use Rattle.protocol.specs.Pattern.{shapeOf}
+use Rattle.protocol.specs.Decision.{patternOf, weightOf, readableRules, allows, walkOf, comparedBy, matching, deciding, decidedBy, isRobotsFile, answered}
+use Rattle.protocol.specs.Meaning.{RuleMatches, Candidate, Closed, Before, heavier, allowing, Tie, Decides, DecidesInOrder, Undecided, NamesRule, NamesNone, Named, byNone, byRule, entryLines, ruleLines}
+use Rattle.protocol.proofs.Found.{walk-finds}
+use Rattle.protocol.proofs.Answered.{answered-robots, answered-other}
+use Rattle.protocol.proofs.Ascending.{applying-lines-ascend}
+use Rattle.protocol.proofs.Deciding.{First, Choice, choice, before-rank, tie-rank}
+
+-- the sides are two
+differ : Side.Allow ≡ Side.Disallow → ⊥
+differ e = true≢false (ap allows e)
+
+-- readable, and the walk finds a match
+abbrev found : List ℕ → List ℕ → Rule → Bool
+found file path r = readablePattern (patternOf file r) && walkOf file path r .stood
+
+found-matches : (file path : List ℕ) (r : Rule) → (found file path r ≡ true) ↔ RuleMatches file path r
+unfolding walkOf
+found-matches file path r =
+    let (there, back) = walk-finds (shapeOf (patternOf file r)) path in
+    let readable = readablePattern (patternOf file r) in (
+      λ h. record { readable = and-left readable _ h; matches = there (and-right readable _ h) },
+      λ m. rw (m .readable) (back (m .matches)),
+    )
+
+-- what is named where a rule decides, and where none does
+names-rule : (d : Decision) (r : Rule) (u c : ℕ) → d ≡ decidedBy (some r) u c → NamesRule d r
+unfolding decidedBy
+names-rule d r u c e =
+    record {
+      side = ap (λ (x : Decision). x .side) e;
+      line = ap (λ (x : Decision). x .line) e;
+      place = ap (λ (x : Decision). x .place) e;
+      length = ap (λ (x : Decision). x .length) e;
+    }
+
+names-none : (d : Decision) (u c : ℕ) → d ≡ decidedBy none u c → NamesNone d
+unfolding decidedBy
+names-none d u c e =
+    record {
+      side = ap (λ (x : Decision). x .side) e;
+      line = ap (λ (x : Decision). x .line) e;
+      place = ap (λ (x : Decision). x .place) e;
+      length = ap (λ (x : Decision). x .length) e;
+    }
+
+module _ (file : List ℕ) (es : List Entry) (name path : List ℕ) where
+  abbrev rules : List Rule
+  rules = applying file es name
+
+  answered-choice : Choice file (found file path) rules (deciding file (matching file path (readableRules file rules)))
+  unfolding matching readableRules
+  answered-choice = rw (kept-kept _ _ rules) (choice file (found file path) rules)
+
+  -- the first of the matches decides
+  decides-first : isRobotsFile path ≡ false → (r : Rule) → First file (found file path) rules r → DecidesInOrder file es name path r
+  decides-first other r c =
+      record {
+        other = other;
+        front = c .front;
+        back = c .back;
+        whole = c .whole;
+        matches = found-matches file path r .0 (c .passes);
+        ahead = λ s m h. before-rank file r s (each-member _ (c .front) s (c .ahead) m (found-matches file path s .1 h));
+        behind = λ s m h. tie-rank file r s (each-member _ (c .back) s (c .behind) m (found-matches file path s .1 h));
+      }
+
+  no-candidate : Each (λ s. found file path s ≡ false) rules → (r : Rule) → Candidate file es name path r → ⊥
+  no-candidate h r c =
+      true≢false (sym (found-matches file path r .1 (c .matches)) ∙ each-member _ rules r h (c .applies))
+
+  -- the answer d names the rule that decides, or none where none does
+  abbrev NamedIn : Decision → Type 0
+  NamedIn d = Named (Undecided file es name path) (DecidesInOrder file es name path) d
+
+  named-by : isRobotsFile path ≡ false → (o : Option Rule) → Choice file (found file path) rules o → (d : Decision) (u c : ℕ) → d ≡ decidedBy o u c → NamedIn d
+  unfolding Choice
+  named-by other none h d u c e = byNone (inr (no-candidate h)) (names-none d u c e)
+  named-by other (some r) h d u c e = byRule r (decides-first other r h) (names-rule d r u c e)
+
+  -- "The answer names the deciding rule's line and octets"
+  pub answered-names : Named (Undecided file es name path) (DecidesInOrder file es name path) (answered file es name path)
+  answered-names =
+      split (isRobotsFile path)
+      (λ e. byNone (inl e) (names-none (answered file es name path) (unread file es) 0 (answered-robots file es name path e)))
+      (λ e.
+      named-by e (deciding file (matching file path (readableRules file rules))) answered-choice (answered file es name path) (unread file es)
+      (comparedBy file path (readableRules file rules))
+      (answered-other file es name path e))
+
+  module _ (r : Rule) (d : DecidesInOrder file es name path r) where
+    -- the rule that decides is a candidate, and no other one comes before it
+    decider : Candidate file es name path r
+    decider =
+        record { applies = rw (d .whole) (Memᴰ·append-right (d .front) (List·Memᴰ·head refl)); matches = d .matches }
+
+    abbrev Standing : Rule → Type 0
+    Standing s = Before file r s ⊎ (Tie file r s × List·Memᴰ s (r ∷ d .back))
+
+    in-order : (s : Rule) → Candidate file es name path s → Standing s
+    in-order s c =
+        ⊎-elim (λ (m : List·Memᴰ s (d .front)). inl (d .ahead s m (c .matches)))
+        (λ (m : List·Memᴰ s (r ∷ d .back)). here m (List·Memᴰ·cases-cons m))
+        (List·Memᴰ·append-cases (d .front) (rw (d .whole) at (c .applies)))
+      where
+        here : List·Memᴰ s (r ∷ d .back) → (s ≡ r) ⊎ List·Memᴰ s (d .back) → Standing s
+        here m (inl p) = inr (record { weight = ap (weightOf file) p; side = ap (λ (x : Rule). x .side) p }, m)
+        here m (inr n) = ⊎-elim (λ (b : Before file r s). inl b) (λ (t : Tie file r s). inr (t, m)) (d .behind s n (c .matches))
+
+    -- Where the rules' lines ascend, the first has the earliest line.
+    decides : Ascending 0 (ruleLines rules) → Decides file es name path r
+    decides a = record { other = d .other; candidate = decider; first = λ s c. by-line s (in-order s c) }
+      where
+        by-line : (s : Rule) → Standing s → Before file r s ⊎ (Tie file r s × (r .line .number ≤ s .line .number))
+        by-line s (inl b) = inl b
+        by-line s (inr (t, m)) =
+            inr (
+              t,
+              ⊎-elim (λ (p : s ≡ r). rw p (omega arith))
+                  (λ (n : List·Memᴰ s (d .back)).
+                  omega (arith, ascending-behind (λ (x : Rule). x .line .number) 0 (d .front) (d .back) r s (rw (d .whole) at a) n))
+                  (List·Memᴰ·cases-cons m),
+            )
+
+    closes : r .side ≡ Side.Disallow → Closed file es name path
+    closes h = record { rule = r; candidate = decider; disallows = h; heavier = λ s c e. outweighs s e (in-order s c) }
+      where
+        outweighs : (s : Rule) → s .side ≡ Side.Allow → Standing s → weightOf file s < weightOf file r
+        outweighs s e (inl (heavier l)) = l
+        outweighs s e (inl (allowing w p q)) = absurd (differ (sym p ∙ h))
+        outweighs s e (inr (t, m)) = absurd (differ (sym e ∙ t .side ∙ h))
+
+    opens : r .side ≡ Side.Allow → Closed file es name path → ⊥
+    opens h k = outweighed (in-order (k .rule) (k .candidate))
+      where
+        less : weightOf file r < weightOf file (k .rule)
+        less = k .heavier r decider h
+
+        outweighed : Standing (k .rule) → ⊥
+        outweighed (inl (heavier l)) = omega (arith, less)
+        outweighed (inl (allowing w p q)) = omega (arith, less)
+        outweighed (inr (t, m)) = omega (arith, less, t .weight)
+
+  -- "the answer is disallow exactly when the normalised path isn't /robots.txt and [..] some disallow rule matches and weighs more than every
+  -- allow rule that matches"
+  pub answered-disallow : (answered file es name path .side ≡ Side.Disallow) ↔ ((isRobotsFile path ≡ false) × Closed file es name path)
+  answered-disallow = (there answered-names, λ (other, k). back other k answered-names)
+    where
+      there : NamedIn (answered file es name path) → answered file es name path .side ≡ Side.Disallow → (isRobotsFile path ≡ false) × Closed file es name path
+      there (byNone u n) e = absurd (differ (sym (n .side) ∙ e))
+      there (byRule r d n) e = (d .other, closes r d (sym (n .side) ∙ e))
+
+      back : isRobotsFile path ≡ false → Closed file es name path → NamedIn (answered file es name path) → answered file es name path .side ≡ Side.Disallow
+      back other k (byNone (inl e) n) = absurd (true≢false (sym e ∙ other))
+      back other k (byNone (inr u) n) = absurd (u (k .rule) (k .candidate))
+      back other k (byRule r d n) = n .side ∙ either (r .side) refl
+        where
+          either : (a : Side) → r .side ≡ a → a ≡ Side.Disallow
+          either Side.Allow h = absurd (opens r d h k)
+          either Side.Disallow h = refl
+
+  -- Where no rule decides, none is named.
+  pub answered-undecided : Undecided file es name path → NamesNone (answered file es name path)
+  answered-undecided u = go u answered-names
+    where
+      go : Undecided file es name path → NamedIn (answered file es name path) → NamesNone (answered file es name path)
+      go u (byNone v n) = n
+      go (inl e) (byRule r d n) = absurd (true≢false (sym e ∙ d .other))
+      go (inr h) (byRule r d n) = absurd (h r (decider r d))
+
+  -- Where the entries' lines ascend, as in a file,
+  module _ (ascend : Ascending 0 (entryLines es)) where
+    -- "then the earliest line" is named,
+    pub answered-names-by-line : Named (Undecided file es name path) (Decides file es name path) (answered file es name path)
+    answered-names-by-line = go answered-names
+      where
+        go : {d : Decision} → NamedIn d → Named (Undecided file es name path) (Decides file es name path) d
+        go (byNone u n) = byNone u n
+        go (byRule r d n) = byRule r (decides r d (applying-lines-ascend file es name ascend)) n
+
+    -- and the line is 0 exactly when no rule decides.
+    pub answered-line-none : (answered file es name path .line ≡ lineNumber 0) ↔ Undecided file es name path
+    answered-line-none = (go answered-names, λ u. answered-undecided u .line)
+      where
+        go : NamedIn (answered file es name path) → answered file es name path .line ≡ lineNumber 0 → Undecided file es name path
+        go (byNone u n) e = u
+        go (byRule r d n) e =
+            let applies : List·Memᴰ r rules = decider r d .applies in
+            let first : 0 < r .line .number
+            = ascending-member (λ (x : Rule). x .line .number) 0 rules r (applying-lines-ascend file es name ascend) applies in
+            absurd (omega (arith, ap (λ (x : LineNumber). x .number) (sym (n .line) ∙ e)))

@@ -1,0 +1,142 @@
+-- What the demands and document 01 say of a refusal and of a decision, in their own words. No walk is in it, and nothing of how an answer is
+-- found. Assumes nothing.
+use Prim.Native.Nat.{ℕ, _≤_, _<_}
+use mathlib.Core.Path.{_≡_}
+use mathlib.Core.Bool.{Bool, true, false, _&&_}
+use mathlib.Core.Logic.{_↔_, _⊎_}
+use mathlib.Core.List.{List, _∷_, _++_, map, List·Memᴰ}
+use lib.Dec.{eqb}
+use Rattle.lists.specs.Lists.{any}
+use Rattle.protocol.specs.declared.Side.{Side}
+use Rattle.protocol.specs.declared.Decision.{Decision}
+use Rattle.protocol.specs.Lines.{lineNumber, placeAt}
+use Rattle.protocol.specs.Readable.{names, readablePattern}
+use Rattle.protocol.specs.Entries.{agent, rule, Entry, entries}
+use Rattle.protocol.specs.Rules.{Rule, valueOf, applying}
+use Rattle.protocol.specs.Normal.{normalPath}
+use Rattle.protocol.specs.Pattern.{shapeOf}
+use Rattle.protocol.specs.Matching.{Matches}
+use Rattle.protocol.specs.Refusals.{Row, decideRefusal}
+use Rattle.protocol.specs.Decision.{patternOf, readableRules, weightOf, isRobotsFile}
+
+-- the condition of number k holds
+unfoldable pub isGiven : ℕ → List Row → Bool
+isGiven k rows = any (λ r. eqb (r .number) k && r .given) rows
+
+-- "the smallest number first": the condition of number k holds, and that of no smaller number
+abbrev pub FirstGiven : ℕ → List Row → Type 0
+FirstGiven k rows = (isGiven k rows ≡ true) × ((j : ℕ) → j < k → isGiven j rows ≡ false)
+
+-- "0 answered": no condition holds
+abbrev pub NoneGiven : List Row → Type 0
+NoneGiven rows = (j : ℕ) → isGiven j rows ≡ false
+
+-- "Given exactly when": n is the number of the first condition that holds, and 0 exactly when none does
+pub record ByTable (rows : List Row) (n : ℕ) : Type 0 where
+  pub refused : (k : ℕ) → (k ≡ 0 → ⊥) → (n ≡ k) ↔ FirstGiven k rows
+  pub answered : (n ≡ 0) ↔ NoneGiven rows
+
+-- the group g names who: g isn't 0, which is none, and one of its agent lines has a value that does
+pub record GroupNames (file : List ℕ) (es : List Entry) (who : List ℕ) (g : ℕ) : Type 0 where
+  pub entry : Entry
+  pub among : List·Memᴰ entry es
+  pub role : entry .role ≡ agent
+  pub group : entry .group ≡ g
+  pub some : g ≡ 0 → ⊥
+  pub named : names (valueOf file entry) who ≡ true
+
+-- the rule of a rule line of that side
+abbrev pub ruleOf : Side → Entry → Rule
+ruleOf side e = record { line = e .line; side = side; place = e .place; length = e .length }
+
+-- r is the rule of a rule line whose group names who
+pub record RuleFor (file : List ℕ) (es : List Entry) (who : List ℕ) (r : Rule) : Type 0 where
+  pub entry : Entry
+  pub among : List·Memᴰ entry es
+  pub role : entry .role ≡ rule (r .side)
+  pub same : r ≡ ruleOf (r .side) entry
+  pub named : GroupNames file es who (entry .group)
+
+-- the numbers of the lines of entries, and of rules
+abbrev pub entryLines : List Entry → List ℕ
+entryLines es = map (λ e. e .line .number) es
+
+abbrev pub ruleLines : List Rule → List ℕ
+ruleLines rs = map (λ r. r .line .number) rs
+
+-- "A rule matches when its pattern is readable and its stars can be filled in some way."
+pub record RuleMatches (file path : List ℕ) (r : Rule) : Type 0 where
+  pub readable : readablePattern (patternOf file r) ≡ true
+  pub matches : Matches (shapeOf (patternOf file r)) path
+
+-- r is one of "the rules that RFC 9309 as read by document 01 gives this crawler", and it matches
+pub record Candidate (file : List ℕ) (es : List Entry) (name path : List ℕ) (r : Rule) : Type 0 where
+  pub applies : List·Memᴰ r (applying file es name)
+  pub matches : RuleMatches file path r
+
+-- "some disallow rule matches and weighs more than every allow rule that matches"
+pub record Closed (file : List ℕ) (es : List Entry) (name path : List ℕ) : Type 0 where
+  pub rule : Rule
+  pub candidate : Candidate file es name path rule
+  pub disallows : rule .side ≡ Side.Disallow
+  pub heavier : (s : Rule) → Candidate file es name path s → s .side ≡ Side.Allow → weightOf file s < weightOf file rule
+
+-- "disallow", for every file, name and path: the decision is refused, or the normalised path isn't /robots.txt and is closed
+abbrev pub Shut : List ℕ → List ℕ → List ℕ → Type 0
+Shut file name path =
+    (decideRefusal file name path ≡ 0 → ⊥)
+    ⊎ ((isRobotsFile (normalPath path) ≡ false) × Closed file (entries file) name (normalPath path))
+
+-- "each readable rule that applies"
+abbrev pub walkedRules : List ℕ → List ℕ → List Rule
+walkedRules file name = readableRules file (applying file (entries file) name)
+
+-- "the heaviest match, allow before disallow at equal weight": r comes before s
+pub data Before (file : List ℕ) (r s : Rule) : Type 0 where
+  heavier : weightOf file s < weightOf file r → Before file r s
+  allowing : weightOf file s ≡ weightOf file r → r .side ≡ Side.Allow → s .side ≡ Side.Disallow → Before file r s
+
+-- a full tie: neither comes before the other
+pub record Tie (file : List ℕ) (r s : Rule) : Type 0 where
+  pub weight : weightOf file s ≡ weightOf file r
+  pub side : s .side ≡ r .side
+
+-- "then the earliest line": r is the rule that decides
+pub record Decides (file : List ℕ) (es : List Entry) (name path : List ℕ) (r : Rule) : Type 0 where
+  pub other : isRobotsFile path ≡ false
+  pub candidate : Candidate file es name path r
+  pub first : (s : Rule) → Candidate file es name path s → Before file r s ⊎ (Tie file r s × (r .line .number ≤ s .line .number))
+
+-- The same from any entries, whatever their line numbers: among rules that tie, the one that stands first. M-104: "at a full tie the earlier"
+pub record DecidesInOrder (file : List ℕ) (es : List Entry) (name path : List ℕ) (r : Rule) : Type 0 where
+  pub other : isRobotsFile path ≡ false
+  pub front : List Rule
+  pub back : List Rule
+  pub whole : applying file es name ≡ front ++ (r ∷ back)
+  pub matches : RuleMatches file path r
+  pub ahead : (s : Rule) → List·Memᴰ s front → RuleMatches file path s → Before file r s
+  pub behind : (s : Rule) → List·Memᴰ s back → RuleMatches file path s → Before file r s ⊎ Tie file r s
+
+-- no rule decides: the path is /robots.txt, or no rule that applies matches
+abbrev pub Undecided : List ℕ → List Entry → List ℕ → List ℕ → Type 0
+Undecided file es name path = (isRobotsFile path ≡ true) ⊎ ((r : Rule) → Candidate file es name path r → ⊥)
+
+-- "The answer names the deciding rule's line and octets"
+pub record NamesRule (d : Decision) (r : Rule) : Type 0 where
+  pub side : d .side ≡ r .side
+  pub line : d .line ≡ r .line
+  pub place : d .place ≡ r .place
+  pub length : d .length ≡ r .length
+
+-- "deciding line (0 if no rule decided), place and length of that rule's raw pattern in the file (0 and 0 if none)". "Any other
+-- unrefused question is allow."
+pub record NamesNone (d : Decision) : Type 0 where
+  pub side : d .side ≡ Side.Allow
+  pub line : d .line ≡ lineNumber 0
+  pub place : d .place ≡ placeAt 0
+  pub length : d .length ≡ 0
+
+-- the answer d names no rule where none decides, and otherwise one that does
+pub data Named (None : Type 0) (Decider : Rule → Type 0) (d : Decision) : Type 0 where
+  byNone : None → NamesNone d → Named None Decider d
+  byRule : (r : Rule) → Decider r → NamesRule d r → Named None Decider d

@@ -1,0 +1,4 @@
+pub mod Building
+pub mod Decimals
+pub mod Fronts
+pub mod Outputs

@@ -1,0 +1,14 @@
+-- `robots::robots_decide_length` meets its contract. Assumes nothing.
+use mathlib.Core.Path.{ap}
+use Rattle.protocol.specs.declared.Decision.{Decision}
+use Rattle.robots.proofs.robots_decide_length.Statement.{statement}
+use Rattle.robots.proofs.robots_decide_length.Tie as tie
+
+decide-requires : tie.Need-decide-requires
+decide-requires c κs = tt
+
+returns : tie.Need-returns
+returns c = ap (λ (d : Decision). d .length) (c .decide .ensures)
+
+pub robots-decide-length-spec : {M : Type 1} → statement M
+robots-decide-length-spec = tie.close (tie.spec decide-requires returns)
