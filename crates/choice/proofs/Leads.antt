@@ -38,11 +38,11 @@ standing-count Side.Allow b n s = refl
 standing-count Side.Disallow b n s = refl
 
 module _ (a b : Best) where
-  better-later : a .weight < b .weight → better a b ≡ b
+  pub better-later : a .weight < b .weight → better a b ≡ b
   unfolding better
   better-later h = rw (lt-ltb (a .weight) (b .weight) h)
 
-  better-earlier : b .weight ≤ a .weight → better a b ≡ a
+  pub better-earlier : b .weight ≤ a .weight → better a b ≡ a
   unfolding better
   better-earlier h = rw (le-ltb (a .weight) (b .weight) h)
 

@@ -119,7 +119,7 @@ abbrev pub lineAt : Position → List ℕ → Line
 lineAt at text = record { number = at .number; place = at .place; text = text }
 
 -- there is room for the numbers after the line: path and file are no longer than they may be, and what was counted in front of the line is
--- bounded by its place
+-- bounded by its place. An octet of a pattern adds at most 3 to its weight, and so 3 * 6,142 pairs.
 pub record Room (path scratch : List ℕ) (l : Line) (t : Tally) : Type 0 where
   pub short : length path ≤ 6_142
   pub lent : length path ≤ length scratch

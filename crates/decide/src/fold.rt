@@ -45,6 +45,7 @@ fn no_tally() -> Tally
     }
 }
 
+// What an agent line adds to the unread count.
 fn unread_agent(agent: Agent) -> usize
     ensures { λ r. ⌜ r ≡ oneIf (unreadableKind (Kind.Agent agent)) ⌝ }
 {
@@ -54,6 +55,7 @@ fn unread_agent(agent: Agent) -> usize
     }
 }
 
+// What a rule line adds to it.
 fn unread_pattern(side: Side, pattern: Pattern) -> usize
     ensures { λ r. ⌜ r ≡ oneIf (unreadableKind (Kind.Rule side pattern)) ⌝ }
 {

@@ -1,11 +1,12 @@
 -- Demand 2 about a path that isn't refused, from any entries: which rule is named, and when the answer is disallow. Assumes nothing.
-use Prim.Native.Nat.{ℕ, _≤_, _<_}
+use Prim.Native.Nat.{ℕ, _+_, _≤_, _<_}
 use mathlib.Core.Path.{_≡_, refl, sym, ap, _∙_}
 use mathlib.Core.Bool.{Bool, true, false, _&&_, true≢false}
 use mathlib.Core.Logic.{_↔_, _⊎_, inl, inr, ⊎-elim}
 use mathlib.Core.List.{List, _∷_, List·Memᴰ, List·Memᴰ·head, List·Memᴰ·cases-cons, List·Memᴰ·append-cases, Memᴰ·append-right}
 use mathlib.Core.Option.{Option, none, some}
 use native.Mathlib.Omega.{arith}
+use lib.ListN.{length}
 use Rattle.lists.specs.Ascending.{Ascending}
 use Rattle.lists.specs.Each.{Each}
 use Rattle.lists.proofs.Bools.{split, and-left, and-right}
@@ -16,11 +17,13 @@ use Rattle.protocol.specs.declared.Decision.{Decision}
 use Rattle.protocol.specs.Lines.{lineNumber}
 use Rattle.protocol.specs.Readable.{readablePattern}
 use Rattle.protocol.specs.Entries.{Entry}
-use Rattle.protocol.specs.Rules.{Rule, applying, unread}
+use Rattle.protocol.specs.Rules.{Rule, addressee, applying, unread}
 use Rattle.protocol.specs.Pattern.{shapeOf}
 use Rattle.protocol.specs.Decision.{patternOf, weightOf, readableRules, allows, walkOf, comparedBy, matching, deciding, decidedBy, isRobotsFile, answered}
-use Rattle.protocol.specs.Meaning.{RuleMatches, Candidate, Closed, Before, heavier, allowing, Tie, Decides, DecidesInOrder, Undecided, NamesRule, NamesNone, Named, byNone, byRule, entryLines, ruleLines}
+use Rattle.protocol.specs.Meaning.{RuleFor, RuleMatches, Candidate, Closed, Before, heavier, allowing, Tie, Decides, DecidesInOrder, Undecided, NamesRule, NamesNone, Named, byNone, byRule, entryLines, ruleLines}
+use Rattle.protocol.proofs.Inside.{ValueInFile}
 use Rattle.protocol.proofs.Found.{walk-finds}
+use Rattle.protocol.proofs.Applying.{applies}
 use Rattle.protocol.proofs.Answered.{answered-robots, answered-other}
 use Rattle.protocol.proofs.Ascending.{applying-lines-ascend}
 use Rattle.protocol.proofs.Deciding.{First, Choice, choice, before-rank, tie-rank}
@@ -186,6 +189,19 @@ module _ (file : List ℕ) (es : List Entry) (name path : List ℕ) where
       go u (byNone v n) = n
       go (inl e) (byRule r d n) = absurd (true≢false (sym e ∙ d .other))
       go (inr h) (byRule r d n) = absurd (h r (decider r d))
+
+  -- Where the entries' values lie inside the file, the octets that are named do.
+  pub answered-inside : Each (ValueInFile file) es → answered file es name path .place .offset + answered file es name path .length ≤ length file
+  answered-inside inside = go (answered file es name path) answered-names
+    where
+      rule-inside : (r : Rule) → RuleFor file es (addressee file es name) r → r .place .offset + r .length ≤ length file
+      rule-inside r f =
+          let here : ValueInFile file (f .entry) = each-member (ValueInFile file) es (f .entry) inside (f .among) in
+          omega (arith, here, ap (λ (x : Rule). x .place .offset) (f .same), ap (λ (x : Rule). x .length) (f .same))
+
+      go : (d : Decision) → NamedIn d → d .place .offset + d .length ≤ length file
+      go d (byNone u n) = rw (n .place, n .length) (omega arith)
+      go d (byRule r k n) = rw (n .place, n .length) (rule-inside r (applies file es name r .0 (decider r k .applies)))
 
   -- Where the entries' lines ascend, as in a file,
   module _ (ascend : Ascending 0 (entryLines es)) where

@@ -1,5 +1,5 @@
 -- The three demands about a decision, for every file, name and path. Assumes nothing.
-use Prim.Native.Nat.{ℕ, zero, suc, _*_, _≤_}
+use Prim.Native.Nat.{ℕ, zero, suc, _+_, _*_, _≤_}
 use mathlib.Core.Path.{_≡_, refl, ap}
 use mathlib.Core.Bool.{true, false}
 use mathlib.Core.Logic.{_↔_, _⊎_, inl, inr, ⊎-elim}
@@ -22,10 +22,11 @@ use Rattle.protocol.specs.Refusals.{decideRows, decideRefusal}
 use Rattle.protocol.specs.Decision.{patternOf, weightOf, isRobotsFile, answered}
 use Rattle.protocol.specs.Answers.{refusedDecision, unlessRefused, decide, sideNumber}
 use Rattle.protocol.specs.Meaning.{ByTable, Closed, Shut, walkedRules, Decides, Undecided, NamesNone, Named}
+use Rattle.protocol.proofs.Inside.{entries-inside}
 use Rattle.protocol.proofs.Refused.{decideRefusal-by-table}
 use Rattle.protocol.proofs.Answered.{answered-refusal, answered-unread, answered-compared, answered-compared-robots, answered-bound}
 use Rattle.protocol.proofs.Ascending.{entry-lines-ascend}
-use Rattle.protocol.proofs.Decided.{answered-disallow, answered-names-by-line, answered-line-none, answered-undecided}
+use Rattle.protocol.proofs.Decided.{answered-disallow, answered-inside, answered-names-by-line, answered-line-none, answered-undecided}
 
 -- for a refusal n and an answer d
 refusal-by : (n : ℕ) (d : Decision) → d .refusal ≡ 0 → unlessRefused n d .refusal ≡ n
@@ -92,6 +93,14 @@ module _ (file name path : List ℕ) (unrefused : decideRefusal file name path �
   -- "The unread count is the number of unreadable agent and rule lines in the whole file."
   pub decide-unread : decide file name path .unread ≡ unread file (entries file)
   decide-unread = rw (decide-answered file name path unrefused) (answered-unread file (entries file) name (normalPath path))
+
+-- The octets that are named lie inside the file. Refused, none are.
+pub decide-inside : (file name path : List ℕ) → decide file name path .place .offset + decide file name path .length ≤ length file
+decide-inside file name path =
+    split (eqb (decideRefusal file name path) 0)
+    (λ e.
+    rw (decide-answered file name path (eqb-true (decideRefusal file name path) 0 e)) (answered-inside file (entries file) name (normalPath path) (entries-inside file)))
+    (λ e. rw (decide-refused file name path (eqb-false (decideRefusal file name path) 0 e)) (omega arith))
 
 -- "It must fail shut": disallow exactly where the decision is refused or the path is closed
 pub decide-shut : (file name path : List ℕ) → (decide file name path .side ≡ Side.Disallow) ↔ Shut file name path

@@ -3,7 +3,7 @@
 
 ghost use mathlib.Core.Path.{_≡_};
 ghost use mathlib.Core.Logic.{_↔_};
-ghost use Prim.Native.Nat.{_*_, _≤_};
+ghost use Prim.Native.Nat.{_+_, _*_, _≤_};
 ghost use lib.ListN.{length};
 ghost use Rattle.lists.specs.Lists.{total};
 ghost use Rattle.protocol.specs.Normal.{normalPath};
@@ -52,10 +52,11 @@ pub extern "C" fn robots_decide_place(file: &[u8], name: &[u8], path: &[u8]) -> 
     answer.place.offset
 }
 
-// How many octets that pattern has: 0 where none decided.
+// How many octets that pattern has: 0 where none decided. From their place on, they lie inside the file.
 #[no_mangle]
 pub extern "C" fn robots_decide_length(file: &[u8], name: &[u8], path: &[u8]) -> usize
     ensures { λ r. ⌜ r ≡ decide (now (file .entry)) (now (name .entry)) (now (path .entry)) .length ⌝ }
+    ensures { λ r. ⌜ decide (now (file .entry)) (now (name .entry)) (now (path .entry)) .place .offset + r ≤ length (now (file .entry)) ⌝ }
 {
     let answer = decide::answers::decide(file, name, path);
     answer.length

@@ -2,10 +2,8 @@
 //! tests the conditions that concern it, the smallest number first".
 
 use crate::deciding::{check_no_rule, check_refused_decision};
-use crate::texts::{slash_and, MOST_FILE, MOST_NAME, MOST_PATH};
-
-/// Inputs with their number; `None` if nothing is wrong with them.
-type Inputs = Vec<(Vec<u8>, Option<usize>)>;
+use crate::path_refusals::{paths, Inputs};
+use crate::texts::{MOST_FILE, MOST_NAME};
 
 /// "file [..] longer than 512,000 octets". None of the good ones has a rule or
 /// an unreadable line.
@@ -37,33 +35,6 @@ fn names() -> Inputs {
     ]
 }
 
-/// Paths for each number of a path, alone and together with the later ones.
-fn paths() -> Inputs {
-    let mut inside = slash_and(b'a', MOST_PATH + 1);
-    inside[MOST_PATH] = b'#';
-    vec![
-        (b"/".to_vec(), None),
-        (b"/robots.txt".to_vec(), None),
-        (slash_and(b'a', MOST_PATH), None),
-        (slash_and(b'%', MOST_PATH), None),
-        // "path empty or over 2,048 octets"
-        (b"".to_vec(), Some(3)),
-        (slash_and(b'a', MOST_PATH + 1), Some(3)),
-        (vec![b'a'; MOST_PATH + 1], Some(3)),
-        (inside, Some(3)),
-        // "path doesn't begin with "/""
-        (b"a".to_vec(), Some(4)),
-        (b"%2F".to_vec(), Some(4)),
-        (b" /".to_vec(), Some(4)),
-        (vec![b'#'; MOST_PATH], Some(4)),
-        // "path holds an octet of 0x20 or less, or "#""
-        (b"/ ".to_vec(), Some(5)),
-        (b"/a#b".to_vec(), Some(5)),
-        (b"/\0".to_vec(), Some(5)),
-        (slash_and(b'\n', MOST_PATH), Some(5)),
-    ]
-}
-
 /// Each file with each name and each path: the smallest number is given, and
 /// without one there is an answer.
 #[test]
@@ -86,16 +57,16 @@ fn the_smallest_number_first() {
             }
         }
     }
-    // 3 good files of 6, 3 good names of 11, 4 good paths of 16 and 4 for
-    // each number
-    let of_paths = 3 * 3 * 4;
+    // 3 good files of 6, 3 good names of 11, and of 22 paths 4 good ones and 5,
+    // 8 and 5 for their numbers
+    let good = 3 * 3;
     let expected = [
-        of_paths,
-        3 * 11 * 16,
-        3 * 8 * 16,
-        of_paths,
-        of_paths,
-        of_paths,
+        good * 4,
+        3 * 11 * 22,
+        3 * 8 * 22,
+        good * 5,
+        good * 8,
+        good * 5,
     ];
     assert_eq!(seen, expected, "answered, and each number");
 }

@@ -16,6 +16,7 @@ mod line_octets;
 mod match_limits;
 mod match_refusals;
 mod path_octets;
+mod path_refusals;
 mod pattern_octets;
 mod small_files;
 mod small_patterns;

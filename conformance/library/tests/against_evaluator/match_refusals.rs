@@ -2,10 +2,8 @@
 //! tests the conditions that concern it, the smallest number first".
 
 use crate::ask::{check_refused_match, check_walk};
+use crate::path_refusals::{paths, Inputs};
 use crate::texts::{slash_and, MOST_PATH, MOST_PATTERN};
-
-/// Inputs with their number; `None` if nothing is wrong with them.
-type Inputs = Vec<(Vec<u8>, Option<usize>)>;
 
 /// Patterns that are good, too long, empty or unreadable. A long one that is
 /// unreadable too comes under 1.
@@ -58,36 +56,6 @@ const UNREADABLE: [&[u8]; 26] = [
     b"/\xF4\x90\x80\x80",
     b"/\xFF",
 ];
-
-/// Paths for each number of a path, alone and together with the later ones.
-fn paths() -> Inputs {
-    let mut inside = slash_and(b'a', MOST_PATH + 1);
-    inside[MOST_PATH] = b'#';
-    vec![
-        (b"/".to_vec(), None),
-        (b"/robots.txt".to_vec(), None),
-        (slash_and(b'a', MOST_PATH), None),
-        // "path empty or over 2,048 octets"
-        (b"".to_vec(), Some(3)),
-        (slash_and(b'a', MOST_PATH + 1), Some(3)),
-        (vec![b'a'; MOST_PATH + 1], Some(3)),
-        (inside, Some(3)),
-        (vec![b'#'; MOST_PATH + 1], Some(3)),
-        // "path doesn't begin with "/""
-        (b"a".to_vec(), Some(4)),
-        (b"*".to_vec(), Some(4)),
-        (b"%2F".to_vec(), Some(4)),
-        (vec![b'a'; MOST_PATH], Some(4)),
-        (b"#".to_vec(), Some(4)),
-        (b" /".to_vec(), Some(4)),
-        (b"a b".to_vec(), Some(4)),
-        // "path holds an octet of 0x20 or less, or "#""
-        (b"/ ".to_vec(), Some(5)),
-        (b"/a#b".to_vec(), Some(5)),
-        (b"/\0".to_vec(), Some(5)),
-        (slash_and(b'#', MOST_PATH), Some(5)),
-    ]
-}
 
 /// Each pattern with each path: the smaller number is given, and without one
 /// there is an answer.

@@ -1,4 +1,5 @@
 -- `robots::robots_decide_length` meets its contract. Assumes nothing.
+use Rattle.protocol.proofs.Demands.{decide-inside}
 use mathlib.Core.Path.{ap}
 use Rattle.protocol.specs.declared.Decision.{Decision}
 use Rattle.robots.proofs.robots_decide_length.Statement.{statement}
@@ -8,7 +9,9 @@ decide-requires : tie.Need-decide-requires
 decide-requires c κs = tt
 
 returns : tie.Need-returns
-returns c = ap (λ (d : Decision). d .length) (c .decide .ensures)
+returns c =
+    let a = c .before .before .before .before .args in
+    (ap (λ (d : Decision). d .length) (c .decide .ensures), rw (ap (λ (d : Decision). d .length) (c .decide .ensures)) (decide-inside (a .file .now) (a .name .now) (a .path .now)))
 
 pub robots-decide-length-spec : {M : Type 1} → statement M
 robots-decide-length-spec = tie.close (tie.spec decide-requires returns)
