@@ -82,7 +82,7 @@ enum robots_limit {
  * the same decision. If refused, robots_decide_disallow answers 1, and line,
  * place, length and both counts are 0.
  *
- * A call needs about 12 KiB of stack, however long the file is. No memory is
+ * A call needs about 13 KiB of stack, however long the file is. No memory is
  * lent to it.
  */
 
