@@ -1,7 +1,8 @@
 #!/bin/sh
 # Runs every test: the layout of the sources, rt ci (every crate proved from nothing, every must-fail edit refused, every program run), what
-# the refusals of the edits rest on, the header against the library, the tests in Rust, the library linked from C and from C++, the examples in C, and the
-# README's command. Stops at the first step that fails. The last line is rt ci's own, printed only if every step passed.
+# the refusals of the edits rest on, make install, the header against the library, the tests in Rust, the bindings, the library linked from C and from C++,
+# the examples in C, the header's program, and the README's command. Stops at the first step that fails. The last line is rt ci's own, printed only if every
+# step passed.
 set -u
 cd "$(dirname "$0")" || exit 2
 
@@ -10,11 +11,14 @@ fail() {
     exit 1
 }
 
-[ $# -eq 0 ] || fail "it takes no arguments: run ./test.sh"
+if [ $# -ne 0 ]; then
+    echo "test.sh: it takes no arguments: run ./test.sh" >&2
+    exit 2
+fi
 
 # rustup's own folder may be missing from the search path
 PATH="$PATH:${CARGO_HOME:-${HOME:-}/.cargo}/bin"
-for tool in rt cargo gcc nm; do
+for tool in rt make gcc g++ nm cargo python3; do
     command -v "$tool" >/dev/null || fail "$tool is not installed; see README.md, 'What you need'"
 done
 
@@ -39,31 +43,64 @@ if grep -lsE 'that can be named from here|has no field' target/must-fail/*/*/.lo
     fail "a must-fail edit only makes a proof unfit for the code"
 fi
 
-# rt ci empties target/, so the archive is built after it
+# rt ci empties target/, so the library is built after it. What an outer make was told isn't meant for this one
 archive=target/staticlib/librobots.a
-rt staticlib robots || fail "rt staticlib robots: see the first line above that isn't 'proved'"
+prefix=$logs/prefix
+unset MAKEFLAGS MFLAGS MAKELEVEL
+make install PREFIX="$prefix" DESTDIR= || fail "make install: see the first line above that isn't 'proved', or its message"
+"$prefix/bin/robots_decide" <crates/robots_decide/stdin | cmp - crates/robots_decide/stdout || fail "make install: the installed robots_decide answers otherwise"
 
-nm -g --defined-only "$archive" | sed -n 's/^[0-9a-f]* T //p' | sort >"$logs/exported"
 sed -n 's/^size_t \(robots_[a-z_]*\)(.*/\1/p' include/robots.h | sort >"$logs/declared"
-diff "$logs/exported" "$logs/declared" || fail "include/robots.h: declare what crates/robots exports (< exported only, > declared only)"
+# exported_alike LIBRARY NM-OPTION
+exported_alike() {
+    nm "$2" --defined-only "$1" | sed -n 's/^[0-9a-f]* T //p' | sort >"$logs/exported"
+    diff "$logs/exported" "$logs/declared" || fail "include/robots.h: declare what $1 exports (< exported only, > declared only)"
+}
+exported_alike "$archive" -g
+exported_alike target/shared/librobots.so -D
 
 cargo test --manifest-path conformance/Cargo.toml --workspace --offline --locked || fail "cargo test in conformance/"
+cargo test --manifest-path bindings/rust/Cargo.toml --offline --locked || fail "cargo test in bindings/rust/"
+sh conformance/script/test.sh || fail "conformance/script/test.sh: see the failed checks above"
 
-# the same program as C and as C++: the header serves both
-link_test() {
-    "$@" -Wall -Wextra -Werror -pedantic -Iinclude conformance/c/link.c "$archive" -o "target/link-test/$1" || fail "$1 on conformance/c/link.c: see its messages above"
-    "target/link-test/$1" || fail "target/link-test/$1: see the failed checks above"
+# -B: leave no compiled file behind
+ROBOTS_LIBRARY='' python3 -B bindings/python/test_robots.py || fail "bindings/python/test_robots.py: see the failed tests above"
+
+# compiled SOURCE NAME FLAG...: as C to target/link-test/NAME and as C++ to target/link-test/NAME-c++, as the header serves both
+warnings='-Wall -Wextra -Wpedantic -Werror'
+compiled() {
+    source=$1
+    output=target/link-test/$2
+    shift 2
+    gcc -std=c11 $warnings "$source" "$@" -o "$output" || fail "gcc on $source: see its messages above"
+    g++ -std=c++11 $warnings "$source" "$@" -o "$output-c++" || fail "g++ on $source: see its messages above"
 }
 mkdir -p target/link-test || fail "mkdir -p target/link-test"
-link_test gcc -std=c99
-if command -v g++ >/dev/null; then
-    link_test g++
-else
-    echo "test.sh: g++ is not installed, so the header is not tried as C++"
-fi
+
+compiled conformance/c/link.c checks -Iinclude "$archive"
+for program in checks checks-c++; do
+    "target/link-test/$program" || fail "target/link-test/$program: see the failed checks above"
+done
+
+# the header's program, compiled as a caller of the installed library does: with what pkg-config says, or what it would read
+installed_flags() {
+    if command -v pkg-config >/dev/null; then
+        PKG_CONFIG_PATH="$prefix/lib/pkgconfig" pkg-config --cflags --libs robots
+    else
+        named=$(sed -n 's/^prefix=//p' "$prefix/lib/pkgconfig/robots.pc")
+        sed -n -e "s|\${prefix}|$named|" -e 's/^Cflags: //p' -e 's/^Libs: //p' "$prefix/lib/pkgconfig/robots.pc"
+    fi
+}
+flags=$(installed_flags) && [ -n "$flags" ] || fail "robots.pc.in: the installed robots.pc gives no flags"
+sed -n 's/^ \*     //p' include/robots.h >target/link-test/header.c
+compiled target/link-test/header.c header $flags
+for program in header header-c++; do
+    printed=$("target/link-test/$program")
+    [ $? -eq 1 ] && [ "$printed" = disallow ] || fail "include/robots.h: its program, target/link-test/$program, printed '$printed'"
+done
 
 for example in examples/*.c; do
-    gcc -std=c99 -Wall -Wextra -Werror -pedantic -Iinclude "$example" "$archive" -o "target/link-test/$(basename "$example" .c)" || fail "gcc on $example: see its messages above"
+    compiled "$example" "$(basename "$example" .c)" -Iinclude "$archive"
 done
 
 # examples/link.c closes its example's path, and opens nothing for a file that can't be read

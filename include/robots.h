@@ -1,8 +1,28 @@
 /*
  * robots.h - questions about robots.txt files (RFC 9309).
  *
+ * May this crawler fetch this path, by this rules file? The library answers
+ * allow or disallow, with the rule that decided. It ends with an answer on any
+ * octets, and a refused decision is disallow: it fails shut. It also matches
+ * one pattern against one path, normalises a path, and tells the kind of one
+ * line.
+ *
+ * A whole program, which prints "disallow" and ends with status 1:
+ *
+ *     #include "robots.h"
+ *     #include <stdio.h>
+ *     int main(void) {
+ *         const uint8_t file[] = "user-agent: *\ndisallow: /sailings/draft\n";
+ *         const uint8_t name[] = "drydockbot", path[] = "/sailings/draft/9";
+ *         size_t disallow = robots_decide_disallow(file, sizeof file - 1,
+ *             name, sizeof name - 1, path, sizeof path - 1);
+ *         puts(disallow ? "disallow" : "allow");
+ *         return disallow ? 1 : 0;
+ *     }
+ *
  * Each function answers one number of one question and keeps nothing between
- * calls. It allocates no memory, and ends with an answer on any octets.
+ * calls. It allocates no memory, and needs at most 16 KiB of stack, however
+ * long its inputs are.
  *
  * Octets are given as a pointer and a length. The caller owes:
  * - the pointer points to at least `length` octets that may be read and are
@@ -23,18 +43,26 @@
 extern "C" {
 #endif
 
-/* Why a question is refused. The smallest number that holds is given. */
+/*
+ * Why a question is refused: what the functions named robots_..._refusal
+ * answer. Each tests what concerns its question, and gives the smallest number
+ * that holds.
+ */
 enum robots_refusal {
-    ROBOTS_ANSWERED = 0,      /* not refused */
-    ROBOTS_TOO_LONG = 1,      /* file, pattern or line over 512,000 octets */
-    ROBOTS_BAD_NAME = 2,      /* name empty, over ROBOTS_NAME_MOST octets, or
-                                 with an octet other than A-Z a-z - _ */
-    ROBOTS_PATH_LENGTH = 3,   /* path empty, or over ROBOTS_PATH_MOST octets */
-    ROBOTS_PATH_START = 4,    /* path doesn't begin with "/" */
-    ROBOTS_PATH_OCTET = 5,    /* path holds an octet of 0x20 or less, or "#" */
-    ROBOTS_NO_ROOM = 6,       /* normalised path longer than the buffer */
-    ROBOTS_BAD_PATTERN = 8,   /* pattern empty or unreadable */
-    ROBOTS_SEVERAL_LINES = 9  /* line holds CR or LF */
+    ROBOTS_ANSWERED = 0,            /* not refused */
+    ROBOTS_REFUSED_LENGTH = 1,      /* file, pattern or line over 512,000
+                                       octets */
+    ROBOTS_REFUSED_NAME = 2,        /* name empty, over 64 octets, or with an
+                                       octet other than A-Z a-z - _ */
+    ROBOTS_REFUSED_PATH_LENGTH = 3, /* path empty, or over 2,048 octets */
+    ROBOTS_REFUSED_PATH_START = 4,  /* path doesn't begin with "/" */
+    ROBOTS_REFUSED_PATH_OCTET = 5,  /* path holds an octet of 0x20 or less, or
+                                       "#" */
+    ROBOTS_REFUSED_ROOM = 6,        /* normalised path longer than the buffer */
+    ROBOTS_REFUSED_INPUT = 7,       /* input over 65,536 octets: the program
+                                       robots_decide only, no function */
+    ROBOTS_REFUSED_PATTERN = 8,     /* pattern empty or unreadable */
+    ROBOTS_REFUSED_LINES = 9        /* line holds CR or LF */
 };
 
 /* The kinds of lines. */
@@ -81,17 +109,14 @@ enum robots_limit {
  * The seven functions take the same question, and each answers one number of
  * the same decision. If refused, robots_decide_disallow answers 1, and line,
  * place, length and both counts are 0.
- *
- * A call needs about 13 KiB of stack, however long the file is. No memory is
- * lent to it.
  */
 
 /*
  * Why a file, a name and a path are refused.
  *
- * Answers ROBOTS_ANSWERED (0) if they aren't, else ROBOTS_TOO_LONG (1),
- * ROBOTS_BAD_NAME (2), ROBOTS_PATH_LENGTH (3), ROBOTS_PATH_START (4) or
- * ROBOTS_PATH_OCTET (5).
+ * Answers ROBOTS_ANSWERED if they aren't, else ROBOTS_REFUSED_LENGTH,
+ * ROBOTS_REFUSED_NAME, ROBOTS_REFUSED_PATH_LENGTH, ROBOTS_REFUSED_PATH_START
+ * or ROBOTS_REFUSED_PATH_OCTET.
  */
 size_t robots_decide_refusal(const uint8_t *file, size_t file_length,
                              const uint8_t *name, size_t name_length,
@@ -179,9 +204,9 @@ size_t robots_normalise(const uint8_t *path, size_t path_length,
 /*
  * Why robots_normalise refuses this path with a buffer of `room` octets.
  *
- * Answers ROBOTS_ANSWERED (0) if it doesn't, else ROBOTS_PATH_LENGTH (3),
- * ROBOTS_PATH_START (4), ROBOTS_PATH_OCTET (5) or ROBOTS_NO_ROOM (6). `room`
- * is a number only: no buffer is lent, and any number may be given.
+ * Answers ROBOTS_ANSWERED if it doesn't, else ROBOTS_REFUSED_PATH_LENGTH,
+ * ROBOTS_REFUSED_PATH_START, ROBOTS_REFUSED_PATH_OCTET or ROBOTS_REFUSED_ROOM.
+ * `room` is a number only: no buffer is lent, and any number may be given.
  */
 size_t robots_normalise_refusal(const uint8_t *path, size_t path_length,
                                 size_t room);
@@ -189,16 +214,16 @@ size_t robots_normalise_refusal(const uint8_t *path, size_t path_length,
 /*
  * Why a line, given without its line ending, is refused.
  *
- * Answers ROBOTS_ANSWERED (0) if it isn't, else ROBOTS_TOO_LONG (1) or
- * ROBOTS_SEVERAL_LINES (9).
+ * Answers ROBOTS_ANSWERED if it isn't, else ROBOTS_REFUSED_LENGTH or
+ * ROBOTS_REFUSED_LINES.
  */
 size_t robots_line_refusal(const uint8_t *line, size_t line_length);
 
 /*
  * The kind of one line, given without its line ending.
  *
- * Answers a number of enum robots_kind; ROBOTS_KIND_REFUSED (0) if the line
- * is refused. The octets EF BB BF, which may begin a file, are octets like
+ * Answers a number of enum robots_kind; ROBOTS_KIND_REFUSED if the line is
+ * refused. The octets EF BB BF, which may begin a file, are octets like
  * others here: skip them before giving a file's first line.
  */
 size_t robots_line_kind(const uint8_t *line, size_t line_length);
@@ -231,17 +256,14 @@ size_t robots_line_length(const uint8_t *line, size_t line_length);
  * it begins with "/" and is UTF-8 that holds neither "#" nor an octet under
  * 0x21. The path is given raw too, with its query if any. Both are normalised
  * before they are compared. /robots.txt is a path like others here.
- *
- * A call needs about 12 KiB of stack, however long the pattern is. No memory
- * is lent to it.
  */
 
 /*
  * Why a pattern and a path are refused.
  *
- * Answers ROBOTS_ANSWERED (0) if they aren't, else ROBOTS_TOO_LONG (1),
- * ROBOTS_PATH_LENGTH (3), ROBOTS_PATH_START (4), ROBOTS_PATH_OCTET (5) or
- * ROBOTS_BAD_PATTERN (8).
+ * Answers ROBOTS_ANSWERED if they aren't, else ROBOTS_REFUSED_LENGTH,
+ * ROBOTS_REFUSED_PATH_LENGTH, ROBOTS_REFUSED_PATH_START,
+ * ROBOTS_REFUSED_PATH_OCTET or ROBOTS_REFUSED_PATTERN.
  */
 size_t robots_match_refusal(const uint8_t *pattern, size_t pattern_length,
                             const uint8_t *path, size_t path_length);

@@ -1,6 +1,6 @@
 /*
  * Links the library through its header and asks fixed questions. The answers
- * are those of document 01 and of the sources' examples. Compiles as C99 and
+ * are those of document 01 and of the sources' examples. Compiles as C11 and
  * as C++.
  */
 #include "robots.h"
@@ -93,13 +93,13 @@ static const struct decide_row decide_rows[] = {
     /* "The unread count is the number of unreadable agent and rule lines in the whole file." */
     {{TEXT("user-agent: 9\nallow: x\ndisallow:\nuser-agent: *\ndisallow: /")}, {TEXT("a")}, {TEXT("/robots.txt")}, ROBOTS_ANSWERED, NO_RULE(2, 0)},
     /* the table of refusals, "the smallest number first"; "A refused decision holds its number, disallow, and zeros." */
-    {{TEXT("user-agent: 9\nuser-agent: *\nallow: /")}, {TEXT("")}, {TEXT("")}, ROBOTS_BAD_NAME, REFUSED},
-    {{TEXT("user-agent: 9\nuser-agent: *\nallow: /")}, {TEXT("*")}, {TEXT("/")}, ROBOTS_BAD_NAME, REFUSED},
-    {{TEXT("user-agent: 9\nuser-agent: *\nallow: /")}, {TEXT("a\0")}, {TEXT("/")}, ROBOTS_BAD_NAME, REFUSED},
-    {{TEXT("user-agent: 9\nuser-agent: *\nallow: /")}, {TEXT("a")}, {TEXT("")}, ROBOTS_PATH_LENGTH, REFUSED},
-    {{TEXT("user-agent: 9\nuser-agent: *\nallow: /")}, {TEXT("a")}, {TEXT("a#")}, ROBOTS_PATH_START, REFUSED},
-    {{TEXT("user-agent: 9\nuser-agent: *\nallow: /")}, {TEXT("a")}, {TEXT("/#")}, ROBOTS_PATH_OCTET, REFUSED},
-    {{TEXT("user-agent: 9\nuser-agent: *\nallow: /")}, {TEXT("a")}, {TEXT("/\0")}, ROBOTS_PATH_OCTET, REFUSED},
+    {{TEXT("user-agent: 9\nuser-agent: *\nallow: /")}, {TEXT("")}, {TEXT("")}, ROBOTS_REFUSED_NAME, REFUSED},
+    {{TEXT("user-agent: 9\nuser-agent: *\nallow: /")}, {TEXT("*")}, {TEXT("/")}, ROBOTS_REFUSED_NAME, REFUSED},
+    {{TEXT("user-agent: 9\nuser-agent: *\nallow: /")}, {TEXT("a\0")}, {TEXT("/")}, ROBOTS_REFUSED_NAME, REFUSED},
+    {{TEXT("user-agent: 9\nuser-agent: *\nallow: /")}, {TEXT("a")}, {TEXT("")}, ROBOTS_REFUSED_PATH_LENGTH, REFUSED},
+    {{TEXT("user-agent: 9\nuser-agent: *\nallow: /")}, {TEXT("a")}, {TEXT("a#")}, ROBOTS_REFUSED_PATH_START, REFUSED},
+    {{TEXT("user-agent: 9\nuser-agent: *\nallow: /")}, {TEXT("a")}, {TEXT("/#")}, ROBOTS_REFUSED_PATH_OCTET, REFUSED},
+    {{TEXT("user-agent: 9\nuser-agent: *\nallow: /")}, {TEXT("a")}, {TEXT("/\0")}, ROBOTS_REFUSED_PATH_OCTET, REFUSED},
 };
 
 static const struct line_row line_rows[] = {
@@ -148,9 +148,9 @@ static const struct line_row line_rows[] = {
     /* "No leading mark is skipped here." */
     {{TEXT("\xEF\xBB\xBF" "allow: /")}, ROBOTS_ANSWERED, ROBOTS_KIND_OTHER, 0, 0},
     /* "line holds CR or LF" */
-    {{TEXT("allow: /\n")}, ROBOTS_SEVERAL_LINES, ROBOTS_KIND_REFUSED, 0, 0},
-    {{TEXT("\rallow: /")}, ROBOTS_SEVERAL_LINES, ROBOTS_KIND_REFUSED, 0, 0},
-    {{TEXT("allow: / # \r\n")}, ROBOTS_SEVERAL_LINES, ROBOTS_KIND_REFUSED, 0, 0},
+    {{TEXT("allow: /\n")}, ROBOTS_REFUSED_LINES, ROBOTS_KIND_REFUSED, 0, 0},
+    {{TEXT("\rallow: /")}, ROBOTS_REFUSED_LINES, ROBOTS_KIND_REFUSED, 0, 0},
+    {{TEXT("allow: / # \r\n")}, ROBOTS_REFUSED_LINES, ROBOTS_KIND_REFUSED, 0, 0},
 };
 
 static const struct path_row path_rows[] = {
@@ -182,13 +182,13 @@ static const struct path_row path_rows[] = {
 
 static const struct refused_row refused_rows[] = {
     /* the table of refusals, "the smallest number first" */
-    {{TEXT("")}, ROBOTS_PATH_LENGTH},
-    {{TEXT("a")}, ROBOTS_PATH_START},
-    {{TEXT("%2F")}, ROBOTS_PATH_START},
-    {{TEXT("#")}, ROBOTS_PATH_START},
-    {{TEXT("/a b")}, ROBOTS_PATH_OCTET},
-    {{TEXT("/#")}, ROBOTS_PATH_OCTET},
-    {{TEXT("/\0")}, ROBOTS_PATH_OCTET},
+    {{TEXT("")}, ROBOTS_REFUSED_PATH_LENGTH},
+    {{TEXT("a")}, ROBOTS_REFUSED_PATH_START},
+    {{TEXT("%2F")}, ROBOTS_REFUSED_PATH_START},
+    {{TEXT("#")}, ROBOTS_REFUSED_PATH_START},
+    {{TEXT("/a b")}, ROBOTS_REFUSED_PATH_OCTET},
+    {{TEXT("/#")}, ROBOTS_REFUSED_PATH_OCTET},
+    {{TEXT("/\0")}, ROBOTS_REFUSED_PATH_OCTET},
 };
 
 static const struct match_row match_rows[] = {
@@ -228,16 +228,16 @@ static const struct match_row match_rows[] = {
     /* eleven stars: "/" 1, ten times "a" 1, "b" at the nine places left */
     {{TEXT("/*a*a*a*a*a*a*a*a*a*a*b")}, {TEXT("/aaaaaaaaaaaaaaaaaaa")}, ROBOTS_ANSWERED, 0, 20},
     /* the table of refusals, "the smallest number first" */
-    {{TEXT("/")}, {TEXT("")}, ROBOTS_PATH_LENGTH, 0, 0},
-    {{TEXT("")}, {TEXT("")}, ROBOTS_PATH_LENGTH, 0, 0},
-    {{TEXT("")}, {TEXT("a#")}, ROBOTS_PATH_START, 0, 0},
-    {{TEXT("/#")}, {TEXT("/#")}, ROBOTS_PATH_OCTET, 0, 0},
-    {{TEXT("/")}, {TEXT("/\0")}, ROBOTS_PATH_OCTET, 0, 0},
-    {{TEXT("")}, {TEXT("/")}, ROBOTS_BAD_PATTERN, 0, 0},
-    {{TEXT("*.gif$")}, {TEXT("/image.gif")}, ROBOTS_BAD_PATTERN, 0, 0},
-    {{TEXT("/#")}, {TEXT("/")}, ROBOTS_BAD_PATTERN, 0, 0},
-    {{TEXT("/\0")}, {TEXT("/")}, ROBOTS_BAD_PATTERN, 0, 0},
-    {{TEXT("/\xC3")}, {TEXT("/\xC3")}, ROBOTS_BAD_PATTERN, 0, 0},
+    {{TEXT("/")}, {TEXT("")}, ROBOTS_REFUSED_PATH_LENGTH, 0, 0},
+    {{TEXT("")}, {TEXT("")}, ROBOTS_REFUSED_PATH_LENGTH, 0, 0},
+    {{TEXT("")}, {TEXT("a#")}, ROBOTS_REFUSED_PATH_START, 0, 0},
+    {{TEXT("/#")}, {TEXT("/#")}, ROBOTS_REFUSED_PATH_OCTET, 0, 0},
+    {{TEXT("/")}, {TEXT("/\0")}, ROBOTS_REFUSED_PATH_OCTET, 0, 0},
+    {{TEXT("")}, {TEXT("/")}, ROBOTS_REFUSED_PATTERN, 0, 0},
+    {{TEXT("*.gif$")}, {TEXT("/image.gif")}, ROBOTS_REFUSED_PATTERN, 0, 0},
+    {{TEXT("/#")}, {TEXT("/")}, ROBOTS_REFUSED_PATTERN, 0, 0},
+    {{TEXT("/\0")}, {TEXT("/")}, ROBOTS_REFUSED_PATTERN, 0, 0},
+    {{TEXT("/\xC3")}, {TEXT("/\xC3")}, ROBOTS_REFUSED_PATTERN, 0, 0},
 };
 
 static unsigned passed;
@@ -375,8 +375,8 @@ static void check_path(struct path_row row)
     check_normalise(row.path, needed, ROBOTS_ANSWERED, row.normalised);
     check_normalise(row.path, needed + 1, ROBOTS_ANSWERED, row.normalised);
     check_normalise(row.path, needed + 40, ROBOTS_ANSWERED, row.normalised);
-    check_normalise(row.path, needed - 1, ROBOTS_NO_ROOM, nothing);
-    check_normalise(row.path, 0, ROBOTS_NO_ROOM, nothing);
+    check_normalise(row.path, needed - 1, ROBOTS_REFUSED_ROOM, nothing);
+    check_normalise(row.path, 0, ROBOTS_REFUSED_ROOM, nothing);
 }
 
 static void check_refused(struct refused_row row)
@@ -443,9 +443,9 @@ static void check_longest_question(void)
     uint8_t *name = memory(ROBOTS_NAME_MOST + 1);
     uint8_t *path = memory(ROBOTS_PATH_MOST + 1);
     struct decide_row inside = {{file, 512000}, {name, 64}, {path, 2048}, ROBOTS_ANSWERED, 1, 2, 22, {NULL, 0}, 0, 1};
-    struct decide_row long_file = {{file, 512001}, {name, 65}, {path, 2049}, ROBOTS_TOO_LONG, REFUSED};
-    struct decide_row long_name = {{file, 512000}, {name, 65}, {path, 2049}, ROBOTS_BAD_NAME, REFUSED};
-    struct decide_row long_path = {{file, 512000}, {name, 64}, {path, 2049}, ROBOTS_PATH_LENGTH, REFUSED};
+    struct decide_row long_file = {{file, 512001}, {name, 65}, {path, 2049}, ROBOTS_REFUSED_LENGTH, REFUSED};
+    struct decide_row long_name = {{file, 512000}, {name, 65}, {path, 2049}, ROBOTS_REFUSED_NAME, REFUSED};
+    struct decide_row long_path = {{file, 512000}, {name, 64}, {path, 2049}, ROBOTS_REFUSED_PATH_LENGTH, REFUSED};
 
     memset(file, '*', ROBOTS_FILE_MOST + 1);
     memcpy(file, rules, sizeof rules - 1);
@@ -468,7 +468,7 @@ static void check_longest_line(void)
 {
     uint8_t *text = memory(512001);
     struct line_row inside = {{text, 512000}, ROBOTS_ANSWERED, ROBOTS_KIND_ALLOW_READABLE, 6, 511994};
-    struct line_row outside = {{text, 512001}, ROBOTS_TOO_LONG, ROBOTS_KIND_REFUSED, 0, 0};
+    struct line_row outside = {{text, 512001}, ROBOTS_REFUSED_LENGTH, ROBOTS_KIND_REFUSED, 0, 0};
 
     memset(text, 'a', 512001);
     memcpy(text, "allow:/", 7);
@@ -484,7 +484,7 @@ static void check_longest_path(void)
     uint8_t *text = memory(2049);
     uint8_t *normal = memory(6142);
     struct path_row inside = {{text, 2048}, {normal, 6142}};
-    struct refused_row outside = {{text, 2049}, ROBOTS_PATH_LENGTH};
+    struct refused_row outside = {{text, 2049}, ROBOTS_REFUSED_PATH_LENGTH};
     size_t at;
 
     memset(text, '%', 2049);
@@ -508,8 +508,8 @@ static void check_longest_pattern(void)
     struct match_row stars = {{text, 512000}, {path, 2048}, ROBOTS_ANSWERED, 1, 1};
     /* the one run would pass the end of the path */
     struct match_row run = {{text, 512000}, {path, 2048}, ROBOTS_ANSWERED, 0, 0};
-    struct match_row outside = {{text, 512001}, {path, 2049}, ROBOTS_TOO_LONG, 0, 0};
-    struct match_row long_path = {{text, 512000}, {path, 2049}, ROBOTS_PATH_LENGTH, 0, 0};
+    struct match_row outside = {{text, 512001}, {path, 2049}, ROBOTS_REFUSED_LENGTH, 0, 0};
+    struct match_row long_path = {{text, 512000}, {path, 2049}, ROBOTS_REFUSED_PATH_LENGTH, 0, 0};
 
     memset(path, 'a', ROBOTS_PATH_MOST + 1);
     path[0] = '/';
@@ -537,11 +537,11 @@ static void check_null(void)
     check("line kind", nothing, robots_line_kind(NULL, 0), ROBOTS_KIND_BLANK);
     check("line place", nothing, robots_line_place(NULL, 0), 0);
     check("line length", nothing, robots_line_length(NULL, 0), 0);
-    check("refusal", nothing, robots_normalise_refusal(NULL, 0, 2), ROBOTS_PATH_LENGTH);
+    check("refusal", nothing, robots_normalise_refusal(NULL, 0, 2), ROBOTS_REFUSED_PATH_LENGTH);
     check("octets written", nothing, robots_normalise(NULL, 0, NULL, 0), 0);
     check("octets written", nothing, robots_normalise(NULL, 0, buffer, 2), 0);
     check("wrong octets in the buffer", nothing, wrong_octets(buffer, 2, nothing), 0);
-    check("refusal", slash, robots_normalise_refusal(slash.start, 1, 0), ROBOTS_NO_ROOM);
+    check("refusal", slash, robots_normalise_refusal(slash.start, 1, 0), ROBOTS_REFUSED_ROOM);
     check("octets written", slash, robots_normalise(slash.start, 1, NULL, 0), 0);
 }
 
@@ -552,9 +552,9 @@ static void check_null_decide(void)
     struct octets slash = {TEXT("/")};
     const uint8_t *a = (const uint8_t *)"a";
 
-    check("refusal", nothing, robots_decide_refusal(NULL, 0, NULL, 0, NULL, 0), ROBOTS_BAD_NAME);
+    check("refusal", nothing, robots_decide_refusal(NULL, 0, NULL, 0, NULL, 0), ROBOTS_REFUSED_NAME);
     check("disallow", nothing, robots_decide_disallow(NULL, 0, NULL, 0, NULL, 0), 1);
-    check("refusal", nothing, robots_decide_refusal(NULL, 0, a, 1, NULL, 0), ROBOTS_PATH_LENGTH);
+    check("refusal", nothing, robots_decide_refusal(NULL, 0, a, 1, NULL, 0), ROBOTS_REFUSED_PATH_LENGTH);
     check("disallow", nothing, robots_decide_disallow(NULL, 0, a, 1, NULL, 0), 1);
     check("refusal", slash, robots_decide_refusal(NULL, 0, a, 1, slash.start, 1), ROBOTS_ANSWERED);
     check("disallow", slash, robots_decide_disallow(NULL, 0, a, 1, slash.start, 1), 0);
@@ -571,13 +571,13 @@ static void check_null_match(void)
     struct octets nothing = {NULL, 0};
     struct octets slash = {TEXT("/")};
 
-    check("match refusal", nothing, robots_match_refusal(NULL, 0, NULL, 0), ROBOTS_PATH_LENGTH);
+    check("match refusal", nothing, robots_match_refusal(NULL, 0, NULL, 0), ROBOTS_REFUSED_PATH_LENGTH);
     check("match found", nothing, robots_match_found(NULL, 0, NULL, 0), 0);
     check("match compared", nothing, robots_match_compared(NULL, 0, NULL, 0), 0);
-    check("match refusal", nothing, robots_match_refusal(NULL, 0, slash.start, 1), ROBOTS_BAD_PATTERN);
+    check("match refusal", nothing, robots_match_refusal(NULL, 0, slash.start, 1), ROBOTS_REFUSED_PATTERN);
     check("match found", nothing, robots_match_found(NULL, 0, slash.start, 1), 0);
     check("match compared", nothing, robots_match_compared(NULL, 0, slash.start, 1), 0);
-    check("match refusal", slash, robots_match_refusal(slash.start, 1, NULL, 0), ROBOTS_PATH_LENGTH);
+    check("match refusal", slash, robots_match_refusal(slash.start, 1, NULL, 0), ROBOTS_REFUSED_PATH_LENGTH);
     check("match found", slash, robots_match_found(slash.start, 1, NULL, 0), 0);
     check("match compared", slash, robots_match_compared(slash.start, 1, NULL, 0), 0);
 }

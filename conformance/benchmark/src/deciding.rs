@@ -14,7 +14,7 @@ type Question<'a> = (&'a [u8], &'a [u8]);
 /// Prints a row for each file.
 pub fn run() {
     println!(
-        "{:<14} {:>7} {:>6} {:>6} {:>9} {:>9} {:>12} {:>9} {:>10} {:>11} {:>18} {:>19}",
+        "{:<14} {:>7} {:>6} {:>6} {:>9} {:>9} {:>10} {:>8} {:>8} {:>10} {:>8} {:>16} {:>18} {:>16}",
         "deciding",
         "octets",
         "lines",
@@ -23,10 +23,12 @@ pub fn run() {
         "compared",
         "us a call",
         "library",
+        "plain C",
         "evaluator",
-        "plain pass",
+        "LF pass",
+        "library/plain C",
         "library/evaluator",
-        "library/plain pass"
+        "library/LF pass"
     );
     for site in [
         sites::small(),
@@ -52,23 +54,34 @@ fn run_site(site: &Site) {
     check(site, &questions);
     let times = OCTETS.div_ceil(site.file.len() * questions.len());
     let asked = questions.repeat(times);
-    let lines = count_line_feeds(&site.file);
-    let medians = measure(&Turns {
+    print_row(site, &questions, asked.len(), &medians(site, &asked));
+}
+
+/// Of library, plain C and evaluator, in this order.
+fn medians(site: &Site, asked: &[Question]) -> Medians<3> {
+    let file = || black_box(site.file.as_slice());
+    measure(&Turns {
         name: site.name,
-        library: &|| {
-            sum(&asked, |name, path| {
-                library::decide_disallow(black_box(&site.file), name, path)
-            })
-        },
-        evaluator: &|| {
-            sum(&asked, |name, path| {
-                usize::from(evaluator::decide(black_box(&site.file), name, path).disallow)
-            })
-        },
-        plain: &|| asked.iter().map(|_| count_line_feeds(&site.file)).sum(),
-        line_feeds: lines * asked.len(),
-    });
-    print_row(site, &questions, asked.len(), &medians);
+        answering: [
+            &|| {
+                sum(asked, |name, path| {
+                    library::decide_disallow(file(), name, path)
+                })
+            },
+            &|| {
+                sum(asked, |name, path| {
+                    plain::decide(file(), name, path).disallow
+                })
+            },
+            &|| {
+                sum(asked, |name, path| {
+                    usize::from(evaluator::decide(file(), name, path).disallow)
+                })
+            },
+        ],
+        lf_pass: &|| asked.iter().map(|_| count_line_feeds(&site.file)).sum(),
+        line_feeds: count_line_feeds(&site.file) * asked.len(),
+    })
 }
 
 /// How many of the questions are disallowed.
@@ -79,36 +92,40 @@ fn sum(asked: &[Question], disallow: impl Fn(&[u8], &[u8]) -> usize) -> usize {
         .sum()
 }
 
-/// Library and evaluator give the same seven numbers for each question, and
-/// none is refused.
+/// Library, plain C and evaluator give the same seven numbers for each
+/// question, and none is refused.
 fn check(site: &Site, questions: &[Question]) {
     let file = site.file.as_slice();
     for (name, path) in questions {
+        let message = format!("{}: {}", site.name, path.escape_ascii());
         let expected = evaluator::decide(file, name, path);
-        let numbers = [
-            library::decide_refusal(file, name, path),
-            library::decide_disallow(file, name, path),
-            library::decide_line(file, name, path),
-            library::decide_place(file, name, path),
-            library::decide_length(file, name, path),
-            library::decide_unread(file, name, path),
-            library::decide_compared(file, name, path),
-        ];
-        let told = [
-            0,
-            usize::from(expected.disallow),
-            expected.line,
-            expected.place,
-            expected.length,
-            expected.unread,
-            expected.compared,
-        ];
-        assert_eq!(numbers, told, "{}: {}", site.name, path.escape_ascii());
+        let expected = plain::Decision {
+            refusal: 0,
+            disallow: usize::from(expected.disallow),
+            line: expected.line,
+            place: expected.place,
+            length: expected.length,
+            unread: expected.unread,
+            compared: expected.compared,
+        };
+        let library = plain::Decision {
+            refusal: library::decide_refusal(file, name, path),
+            disallow: library::decide_disallow(file, name, path),
+            line: library::decide_line(file, name, path),
+            place: library::decide_place(file, name, path),
+            length: library::decide_length(file, name, path),
+            unread: library::decide_unread(file, name, path),
+            compared: library::decide_compared(file, name, path),
+        };
+        assert_eq!(library, expected, "library, {message}");
+        let plain_c = plain::decide(file, name, path);
+        assert_eq!(plain_c, expected, "plain C, {message}");
     }
 }
 
-fn print_row(site: &Site, questions: &[Question], calls: usize, medians: &Medians) {
+fn print_row(site: &Site, questions: &[Question], calls: usize, medians: &Medians<3>) {
     let octets = site.file.len();
+    let [library, plain_c, evaluator] = medians.answering;
     let answers = || {
         questions
             .iter()
@@ -119,18 +136,20 @@ fn print_row(site: &Site, questions: &[Question], calls: usize, medians: &Median
     let cut = usize::from(!site.file.ends_with(b"\n"));
     let each = |nanoseconds: f64| nanoseconds / (octets * calls) as f64;
     println!(
-        "{:<14} {:>7} {:>6} {:>6} {:>9} {:>9} {:>12.2} {:>9.3} {:>10.3} {:>11.3} {:>18.2} {:>19.1}",
+        "{:<14} {:>7} {:>6} {:>6} {:>9} {:>9} {:>10.2} {:>8.3} {:>8.3} {:>10.3} {:>8.3} {:>16.2} {:>18.2} {:>16.1}",
         site.name,
         octets,
         count_line_feeds(&site.file) + cut,
         calls,
         format!("{disallowed} of {}", questions.len()),
         compared / questions.len(),
-        medians.library / calls as f64 / 1_000.0,
-        each(medians.library),
-        each(medians.evaluator),
-        each(medians.plain),
-        medians.library / medians.evaluator,
-        medians.library / medians.plain
+        library / calls as f64 / 1_000.0,
+        each(library),
+        each(plain_c),
+        each(evaluator),
+        each(medians.lf_pass),
+        library / plain_c,
+        library / evaluator,
+        library / medians.lf_pass
     );
 }

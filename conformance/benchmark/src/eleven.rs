@@ -67,7 +67,7 @@ fn print_row(case: &Case, time_back: Option<f64>) {
         text: question.repeat(calls),
     };
     let records = input.records();
-    let medians = checked_medians(&input, &records, &MATCHING);
+    let [library, evaluator] = checked_medians(&input, &records, &MATCHING).answering;
     let each = |nanoseconds: f64| nanoseconds / calls as f64;
     let or_dash = |text: Option<String>| text.unwrap_or_else(|| "-".to_string());
     println!(
@@ -77,8 +77,8 @@ fn print_row(case: &Case, time_back: Option<f64>) {
         compared,
         // each octet of the pattern is itself or a star, and weighs 1
         case.pattern.len() * case.path.len(),
-        each(medians.library),
-        each(medians.evaluator),
+        each(library),
+        each(evaluator),
         or_dash(case.back.map(|pairs| pairs.to_string())),
         or_dash(time_back.map(|time| format!("{time:.0}")))
     );

@@ -1,6 +1,6 @@
-//! How long the library takes, beside the independent evaluator and beside a
-//! plain pass over the same octets. `docs/BENCHMARKS.md` says what is
-//! measured.
+//! How long the library takes, beside an evaluator in plain C, the independent
+//! evaluator, and a pass over the same octets that counts LFs.
+//! `docs/BENCHMARKS.md` says what is measured.
 
 mod deciding;
 mod eleven;
@@ -19,26 +19,47 @@ const USAGE: &str =
     "cargo run --release --manifest-path conformance/Cargo.toml -p benchmark --offline --locked";
 
 fn main() {
-    if std::env::args().count() > 1 {
-        eprintln!("benchmark: it takes no arguments: run '{USAGE}'");
-        exit(2);
-    }
+    let arguments: Vec<String> = std::env::args().skip(1).collect();
+    let deciding_only = match arguments.as_slice() {
+        [] => false,
+        [table] if table == "deciding" => true,
+        _ => misused("it takes no argument, or 'deciding'"),
+    };
     if cfg!(debug_assertions) {
-        eprintln!("benchmark: it is built without --release: run '{USAGE}'");
-        exit(2);
+        misused("it is built without --release");
     }
     println!("ns for each octet, median of {}", measure::REPETITIONS);
     println!();
+    if deciding_only {
+        deciding::run();
+        return;
+    }
+    run_records();
+    println!();
+    deciding::run();
+    println!();
+    eleven::run();
+}
+
+fn misused(fault: &str) -> ! {
+    eprintln!(
+        "benchmark: {fault}: run '{USAGE}', with '-- deciding' behind it for that table alone"
+    );
+    exit(2);
+}
+
+/// Prints the table of lines, paths and patterns.
+fn run_records() {
     println!(
-        "{:<14} {:>8} {:>8} {:>9} {:>10} {:>11} {:>18} {:>19}",
+        "{:<14} {:>8} {:>8} {:>9} {:>10} {:>8} {:>18} {:>16}",
         "input",
         "octets",
         "calls",
         "library",
         "evaluator",
-        "plain pass",
+        "LF pass",
         "library/evaluator",
-        "library/plain pass"
+        "library/LF pass"
     );
     run(&inputs::mixed_file(), &passes::KINDS);
     run(&inputs::rules_file(), &passes::KINDS);
@@ -46,10 +67,6 @@ fn main() {
     run(&inputs::escaped_paths(), &passes::NORMALISING);
     run(&inputs::fixed_patterns(), &passes::MATCHING);
     run(&inputs::star_patterns(), &passes::MATCHING);
-    println!();
-    deciding::run();
-    println!();
-    eleven::run();
 }
 
 fn run(input: &Input, passes: &Passes) {
@@ -58,18 +75,19 @@ fn run(input: &Input, passes: &Passes) {
     print_row(input, records.len() / passes.parts, &medians);
 }
 
-fn print_row(input: &Input, calls: usize, medians: &Medians) {
+fn print_row(input: &Input, calls: usize, medians: &Medians<2>) {
     let octets = input.text.len();
+    let [library, evaluator] = medians.answering;
     let each = |nanoseconds: f64| nanoseconds / octets as f64;
     println!(
-        "{:<14} {:>8} {:>8} {:>9.3} {:>10.3} {:>11.3} {:>18.2} {:>19.1}",
+        "{:<14} {:>8} {:>8} {:>9.3} {:>10.3} {:>8.3} {:>18.2} {:>16.1}",
         input.name,
         octets,
         calls,
-        each(medians.library),
-        each(medians.evaluator),
-        each(medians.plain),
-        medians.library / medians.evaluator,
-        medians.library / medians.plain
+        each(library),
+        each(evaluator),
+        each(medians.lf_pass),
+        library / evaluator,
+        library / medians.lf_pass
     );
 }

@@ -9,48 +9,52 @@ pub const REPETITIONS: usize = 201;
 /// Passes of each sort before the first that counts.
 const WARM_UP: usize = 5;
 
-/// Nanoseconds of one pass.
-pub struct Medians {
-    pub library: f64,
-    pub evaluator: f64,
-    pub plain: f64,
-}
+/// Gives one sum.
+pub type Pass<'a> = &'a dyn Fn() -> usize;
 
-/// Three passes over the same octets, each giving one sum.
-pub struct Turns<'a> {
+/// Passes over the same octets.
+pub struct Turns<'a, const ANSWERING: usize> {
     pub name: &'a str,
-    pub library: &'a dyn Fn() -> usize,
-    pub evaluator: &'a dyn Fn() -> usize,
+    /// These answer the same questions. The first is the library's.
+    pub answering: [Pass<'a>; ANSWERING],
     /// Counts the LFs.
-    pub plain: &'a dyn Fn() -> usize,
+    pub lf_pass: Pass<'a>,
     /// How many LFs there are.
     pub line_feeds: usize,
 }
 
-/// Measures the three passes one after the other, again and again. Each time
-/// library and evaluator must give the same sum.
-pub fn measure(turns: &Turns) -> Medians {
-    let (mut library, mut evaluator, mut plain) = (Vec::new(), Vec::new(), Vec::new());
+/// Nanoseconds of one pass.
+pub struct Medians<const ANSWERING: usize> {
+    pub answering: [f64; ANSWERING],
+    pub lf_pass: f64,
+}
+
+/// Measures the passes one after the other, again and again. Each time those
+/// that answer must give the same sum.
+pub fn measure<const ANSWERING: usize>(turns: &Turns<ANSWERING>) -> Medians<ANSWERING> {
+    let mut answering = [const { Vec::new() }; ANSWERING];
+    let mut lf_pass = Vec::new();
     for repetition in 0..WARM_UP + REPETITIONS {
-        let (time_library, sum) = timed(turns.library);
-        let (time_evaluator, expected) = timed(turns.evaluator);
-        let (time_plain, line_feeds) = timed(turns.plain);
-        assert_eq!(sum, expected, "{}: sums", turns.name);
+        let answers = turns.answering.map(timed);
+        let (time_lf_pass, line_feeds) = timed(turns.lf_pass);
+        for (_, sum) in answers {
+            assert_eq!(sum, answers[0].1, "{}: sums", turns.name);
+        }
         assert_eq!(line_feeds, turns.line_feeds, "{}: LFs", turns.name);
         if repetition >= WARM_UP {
-            library.push(time_library);
-            evaluator.push(time_evaluator);
-            plain.push(time_plain);
+            for (times, (time, _)) in answering.iter_mut().zip(answers) {
+                times.push(time);
+            }
+            lf_pass.push(time_lf_pass);
         }
     }
     Medians {
-        library: median(library),
-        evaluator: median(evaluator),
-        plain: median(plain),
+        answering: answering.map(median),
+        lf_pass: median(lf_pass),
     }
 }
 
-fn timed(pass: impl Fn() -> usize) -> (f64, usize) {
+fn timed(pass: Pass) -> (f64, usize) {
     let start = Instant::now();
     let sum = black_box(pass());
     (start.elapsed().as_nanos() as f64, sum)

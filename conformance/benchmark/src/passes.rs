@@ -89,7 +89,7 @@ fn normalise_all(paths: &[&[u8]], normalise: impl Fn(&[u8], &mut [u8]) -> usize)
     sum
 }
 
-/// One plain pass.
+/// The LF pass.
 pub fn count_line_feeds(text: &[u8]) -> usize {
     black_box(text)
         .iter()
@@ -98,13 +98,14 @@ pub fn count_line_feeds(text: &[u8]) -> usize {
 }
 
 /// Checks the passes over this input, and measures them.
-pub fn checked_medians(input: &Input, records: &[&[u8]], passes: &Passes) -> Medians {
+pub fn checked_medians(input: &Input, records: &[&[u8]], passes: &Passes) -> Medians<2> {
     check(input, records, passes);
     measure(&Turns {
         name: input.name,
-        library: &|| (passes.library)(records),
-        evaluator: &|| (passes.evaluator)(records),
-        plain: &|| count_line_feeds(&input.text),
+        answering: [&|| (passes.library)(records), &|| {
+            (passes.evaluator)(records)
+        }],
+        lf_pass: &|| count_line_feeds(&input.text),
         line_feeds: records.len(),
     })
 }

@@ -50,6 +50,13 @@ module _ (a b : Best) where
   unfolding better
   better-under n h k = split (ltb (a .weight) (b .weight)) (λ e. rw e k) (λ e. rw e h)
 
+-- a rule that doesn't match changes nothing but the count
+pub standing-past : (side : Side) (b : Best) (n : ℕ) (s : Standing) → b .weight ≡ 0
+    → standing side b n s ≡ record { allow = s .allow; disallow = s .disallow; compared = s .compared + n }
+unfolding standing
+standing-past Side.Allow b n s h = rw (better-earlier (s .allow) b (omega (arith, h)))
+standing-past Side.Disallow b n s h = rw (better-earlier (s .disallow) b (omega (arith, h)))
+
 -- a rule's rank, by its side and weight
 abbrev rankAs : Side → ℕ → ℕ
 rankAs side w = rankBy w (allows side)

@@ -65,6 +65,14 @@ pub fn stand(s: Standing, side: Side, rule: Best, compared: usize) -> Standing
     let allow = s.allow;
     let disallow = s.disallow;
     let count = s.compared + compared;
+    // A rule that doesn't match: only its pairs count.
+    if rule.weight == 0 {
+        return Standing {
+            allow,
+            disallow,
+            compared: count,
+        };
+    }
     match side {
         Side::Allow => Standing {
             allow: better(allow, rule),

@@ -21,7 +21,7 @@ use Rattle.protocol.specs.Lines.{Line, linesOf, placeAt}
 use Rattle.protocol.specs.Readable.{readablePattern}
 use Rattle.protocol.specs.Kinds.{kindOf, placeOf, lengthOf}
 use Rattle.protocol.specs.Entries.{agent, Entry, roleOf, groupAt, ruledAfter, placeInFile, entryOf, entriesFrom, entries}
-use Rattle.protocol.specs.Rules.{namedBy, naming, someGroupNames, groupNames, Rule, ruleIn, rulesIn}
+use Rattle.protocol.specs.Rules.{namedBy, entryNames, someGroupNames, groupNames, Rule, ruleIn, rulesIn}
 use Rattle.protocol.specs.Decision.{readableRules}
 use Rattle.protocol.proofs.Values.{Says, kind-says}
 use Rattle.protocol.proofs.Inside.{InFile, lines-inside, value-in-file}
@@ -88,7 +88,7 @@ readable-place l side p n h =
 module _ (file who : List ℕ) where
   -- an entry of a group that passes the test f names who
   abbrev namingIn : (ℕ → Bool) → Entry → Bool
-  namingIn f e = f (e .group) && naming file who e
+  namingIn f e = f (e .group) && entryNames file who e
 
   -- in front of the entries es, that of a line names who where the line does
   entry-names : (f : ℕ → Bool) (above : ℕ) (ruled : Bool) (l : Line) (es : List Entry) (k : Kind) → Same file l k

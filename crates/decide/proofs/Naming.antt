@@ -1,66 +1,47 @@
--- Whom a line names, and how its first octet tells that it names nobody. Assumes nothing.
-use Prim.Native.Nat.{ℕ, _+_, _-_, _≤_, _<_}
-use Prim.Native.Char.{code}
+-- Whom a line names, and how its first octet tells that it names nobody, or that it changes nothing. Assumes nothing.
+use Prim.Native.Nat.{ℕ, _+_, _-_, _≤_}
 use mathlib.Core.Path.{_≡_, refl, sym, _∙_}
-use mathlib.Core.Bool.{Bool, true, false, false≢true, and-true, and-false}
-use mathlib.Core.List.{List, [], _∷_, map}
+use mathlib.Core.Bool.{Bool, true, false, _||_, false≢true, and-true, and-false}
+use mathlib.Core.List.{List, _∷_}
 use native.Mathlib.Omega.{arith}
-use lib.Dec.{eqb}
-use lib.ListN.{length, take, drop, getD, drop-of-length-le, length-map, List·getD-map}
-use Rattle.lists.specs.Lists.{empty, any, upTo, from, same}
-use Rattle.lists.proofs.Bools.{split, and-left}
-use Rattle.lists.proofs.Parts.{upTo-stop, upTo-on, from-stop, from-on}
-use Rattle.lists.proofs.Scans.{drop-one, drop-upTo}
-use Rattle.lists.proofs.Tests.{same-length, same-end, same-other, same-on}
+use lib.ListN.{length, take, drop}
+use Rattle.lists.specs.Choice.{if_then_else_}
+use Rattle.lists.specs.Lists.{from}
+use Rattle.lists.proofs.Bools.{split}
+use Rattle.lists.proofs.Parts.{from-stop}
+use Rattle.lists.proofs.Scans.{front-part, take-upTo, upTo-fits}
 use Rattle.protocol.specs.declared.Place.{Place}
 use Rattle.protocol.specs.declared.Kind.{Kind}
-use Rattle.protocol.specs.Octets.{is, blank, upper, lowerCase}
-use Rattle.protocol.specs.Text.{octets, begins, sameIgnoringCase, solid, lead, unlessAtEnd, trimEnd, trim, octetsAt}
+use Rattle.protocol.specs.Octets.{is, blank, lowerCase, lineEnd}
+use Rattle.protocol.specs.Text.{begins, sameIgnoringCase, solid, octetsAt}
+use Rattle.protocol.specs.Lines.{lineText}
 use Rattle.protocol.specs.Readable.{readableAgent, names}
-use Rattle.protocol.specs.Kinds.{isField, fieldKind, recordKind, restKind, uncommented, kindOf, placeOf, lengthOf}
+use Rattle.protocol.specs.Kinds.{kindOf, placeOf, lengthOf}
 use Rattle.protocol.proofs.Values.{value-inside}
-use Rattle.decide.specs.Steps.{kindNames, lineNames, mayName}
+use Rattle.lines.specs.Skips.{entryOctet}
+use Rattle.kinds.specs.declared.fields.Field.{Field}
+use Rattle.kinds.specs.Fields.{fieldOf}
+use Rattle.kinds.specs.Names.{nameLength, beginsName, fieldAt}
+use Rattle.kinds.proofs.Heads.{no-agent, field-no, field-known}
+use Rattle.decide.specs.Steps.{kindNames, lineNames}
 
--- the value of a line, read from its place and length
-module _ (line : List ℕ) (kind : Kind) (place : Place) (n : ℕ) (k : kind ≡ kindOf line) (p : place ≡ placeOf kind) (q : n ≡ lengthOf kind) where
-  pub value-fits : place .offset + n ≤ length line
-  value-fits = rw (p, q, k) (value-inside line)
+-- the value of a line, read where the line stands at the beginning of a text
+module _ (rest : List ℕ) (p n : ℕ) (h : p + n ≤ length (lineText rest)) where
+  pub line-part : take n (drop p rest) ≡ take n (drop p (lineText rest))
+  line-part = let e : take n (drop p (take (length (lineText rest)) rest)) ≡ take n (drop p rest) = front-part rest (length (lineText rest)) p n h in rw (take-upTo lineEnd rest) at (sym e)
 
-  pub value-read : take (place .offset + n - place .offset) (drop (place .offset) line) ≡ octetsAt line (placeOf kind) (lengthOf kind)
+  pub part-fits : p + n ≤ length rest
+  part-fits = omega (arith, upTo-fits lineEnd rest)
+
+module _ (rest : List ℕ) (kind : Kind) (place : Place) (n : ℕ) (k : kind ≡ kindOf (lineText rest)) (p : place ≡ placeOf kind) (q : n ≡ lengthOf kind) where
+  pub value-fits : place .offset + n ≤ length (lineText rest)
+  value-fits = rw (p, q, k) (value-inside (lineText rest))
+
+  pub value-read : take (place .offset + n - place .offset) (drop (place .offset) rest) ≡ octetsAt (lineText rest) (placeOf kind) (lengthOf kind)
   unfolding octetsAt
   value-read =
       let e : place .offset + n - place .offset ≡ n = omega arith in
-      rw (e, q, p)
-
--- what is left of two texts from i on is equal, ignoring ASCII case
-abbrev pub sameFrom : ℕ → List ℕ → List ℕ → Bool
-sameFrom i v w = same (drop i (map lowerCase v)) (drop i (map lowerCase w))
-
-lower-octet : (v : List ℕ) (i : ℕ) → getD (map lowerCase v) i 0 ≡ lowerCase (getD v i 0)
-unfolding lowerCase upper
-lower-octet v i = List·getD-map lowerCase v i 0
-
-module _ (v w : List ℕ) where
-  pub case-length : (length v ≡ length w → ⊥) → false ≡ sameIgnoringCase v w
-  unfolding sameIgnoringCase
-  case-length h =
-      sym (same-length (map lowerCase v) (map lowerCase w) (λ e. h (sym (length-map v lowerCase) ∙ e ∙ length-map w lowerCase)))
-
-  module _ (i : ℕ) where
-    pub case-end : length v ≤ i → length w ≤ i → sameFrom i v w ≡ true
-    case-end h k =
-        same-end (map lowerCase v) (map lowerCase w) i (omega (arith, length-map v lowerCase)) (omega (arith, length-map w lowerCase))
-
-    module _ (h : i < length v) (k : i < length w) where
-      pub case-other : (lowerCase (getD v i 0) ≡ lowerCase (getD w i 0) → ⊥) → sameFrom i v w ≡ false
-      case-other d =
-          same-other (map lowerCase v) (map lowerCase w) i (omega (arith, length-map v lowerCase)) (omega (arith, length-map w lowerCase))
-          (λ e. d (sym (lower-octet v i) ∙ e ∙ lower-octet w i))
-
-      pub case-on : lowerCase (getD v i 0) ≡ lowerCase (getD w i 0) → sameFrom i v w ≡ sameFrom (i + 1) v w
-      case-on e =
-          same-on (map lowerCase v) (map lowerCase w) i (omega (arith, length-map v lowerCase)) (omega (arith, length-map w lowerCase))
-          (lower-octet v i ∙ e ∙ sym (lower-octet w i))
+      rw e (line-part rest (place .offset) n value-fits ∙ rw (p, q))
 
 -- an agent's value names who
 module _ (v who : List ℕ) where
@@ -72,86 +53,73 @@ module _ (v who : List ℕ) where
   unfolding names
   names-other e = rw e (sym (and-false (readableAgent v)))
 
--- a text begins with a "u", in either case
-startsU : List ℕ → Bool
-startsU l = begins "u" (map lowerCase l)
+-- the field of an agent line
+abbrev pub isAgent : Field → Bool
+isAgent Field.Agent = true
+isAgent Field.Allow = false
+isAgent Field.Disallow = false
+isAgent Field.Other = false
 
-module _ (l : List ℕ) (start : ℕ) where
-  pub may-here : (x : ℕ) → start ≡ lead l → start < length l → x ≡ lowerCase (getD l start 0) → eqb x (code "u") ≡ mayName l
-  unfolding mayName lead begins
-  may-here x s h e = rw (e, ← drop-upTo solid l, ← s, drop-one l start 0 h)
+not-agent-first : (t : List ℕ) → beginsName Field.Agent t ≡ false → isAgent (fieldAt t) ≡ false
+unfolding fieldAt
+not-agent-first t h =
+    split (beginsName Field.Allow t) (λ a. rw (h, a)) (λ a. split (beginsName Field.Disallow t) (λ d. rw (h, a, d)) (λ d. rw (h, a, d)))
 
-  pub may-not : start ≡ lead l → length l ≤ start → false ≡ mayName l
-  unfolding mayName lead begins
-  may-not s h = rw (← drop-upTo solid l, ← s, drop-of-length-le l h)
+pub no-agent-named : (who text : List ℕ) (k : Kind) → isAgent (fieldOf k) ≡ false → kindNames who text k ≡ false
+unfolding kindNames
+no-agent-named who text Kind.Blank h = refl
+no-agent-named who text Kind.Noise h = refl
+no-agent-named who text Kind.Other h = refl
+no-agent-named who text (Kind.Agent a) h = absurd (false≢true (sym h))
+no-agent-named who text (Kind.Rule side p) h = refl
 
--- what is left of a text after trimming or cutting begins as the text does
-cut-starts : (f : ℕ → Bool) (l : List ℕ) → startsU (from solid (upTo f l)) ≡ true → startsU (from solid l) ≡ true
-unfolding startsU begins from upTo
-cut-starts f [] h = absurd (false≢true h)
-cut-starts f (c ∷ l) h =
-    split (f c) (λ e. absurd (false≢true (rw (upTo-stop f c l e) at h)))
-    (λ e.
-    split (solid c) (λ s. rw (from-stop solid c l s) (rw (upTo-on f c l e, from-stop solid c (upTo f l) s) at h))
-    (λ s. rw (from-on solid c l s) (cut-starts f l (rw (upTo-on f c l e, from-on solid c (upTo f l) s) at h))))
+-- what no entry begins with
+module _ (rules : Bool) (c : ℕ) (h : entryOctet rules c ≡ false) where
+  not-blank : blank c ≡ false
+  unfolding entryOctet
+  not-blank = split (blank c) (λ e. absurd (false≢true (sym h ∙ rw e))) (λ e. e)
 
-end-starts : (l : List ℕ) → startsU (from solid (trimEnd l)) ≡ true → startsU (from solid l) ≡ true
-unfolding startsU begins from trimEnd unlessAtEnd
-end-starts [] h = absurd (false≢true h)
-end-starts (c ∷ l) h = go (trimEnd l) h (end-starts l)
+  not-u : is "u" (lowerCase c) ≡ false
+  unfolding entryOctet
+  not-u = split (is "u" (lowerCase c)) (λ e. absurd (false≢true (sym h ∙ rw (not-blank, e)))) (λ e. e)
+
+-- nor an agent or rule line
+module _ (c : ℕ) (h : entryOctet true c ≡ false) where
+  not-rule : (is "a" (lowerCase c) || is "d" (lowerCase c)) ≡ false
+  unfolding entryOctet
+  not-rule = rw (not-blank true c h, not-u true c h) at h
+
+  not-a : is "a" (lowerCase c) ≡ false
+  not-a = split (is "a" (lowerCase c)) (λ e. absurd (false≢true (sym not-rule ∙ rw e))) (λ e. e)
+
+  not-d : is "d" (lowerCase c) ≡ false
+  not-d = rw not-a at not-rule
+
+-- a line's field, told by its first octet where that is neither space nor tab
+module _ (c : ℕ) (l : List ℕ) (b : blank c ≡ false) where
+  field-first : fieldOf (kindOf (lineText (c ∷ l)))
+      ≡ (if begins ":" (from solid (drop (nameLength (fieldAt (c ∷ l))) (c ∷ l))) then fieldAt (c ∷ l) else Field.Other)
+  field-first = let s : solid c ≡ true = rw b in rw (from-stop solid c l s) at (field-known (c ∷ l))
+
+-- A line that begins with no space, tab or "u" is no agent line;
+pub first-names : (who : List ℕ) (c : ℕ) (l : List ℕ) → entryOctet false c ≡ false → lineNames who (lineText (c ∷ l)) ≡ false
+unfolding lineNames kindNames
+first-names who c l h = no-agent-named who (lineText (c ∷ l)) (kindOf (lineText (c ∷ l))) (rw (field-first c l (not-blank false c h)) (kept (begins ":" (from solid (drop (nameLength (fieldAt (c ∷ l))) (c ∷ l))))))
   where
-    go : (t : List ℕ) → startsU (from solid (unlessAtEnd c t)) ≡ true → (startsU (from solid t) ≡ true → startsU (from solid l) ≡ true)
-        → startsU (from solid (c ∷ l)) ≡ true
-    go [] h f = split (blank c) (λ e. absurd (false≢true (rw e at h))) (λ e. rw e (rw (e, e) at h))
-    go (y ∷ t) h f = split (blank c) (λ e. rw e (f (rw e at h))) (λ e. rw e (rw e at h))
+    other : isAgent (fieldAt (c ∷ l)) ≡ false
+    other = not-agent-first (c ∷ l) (no-agent (c ∷ l) (λ e. absurd (false≢true (sym (not-u false c h) ∙ rw e))))
 
-from-twice : (l : List ℕ) → from solid (from solid l) ≡ from solid l
-unfolding from
-from-twice [] = refl
-from-twice (c ∷ l) = split (solid c) (λ e. rw (e, e)) (λ e. rw e (from-twice l))
+    kept : (b : Bool) → isAgent (if b then fieldAt (c ∷ l) else Field.Other) ≡ false
+    kept true = other
+    kept false = refl
 
-trim-starts : (l : List ℕ) → startsU (from solid (trim l)) ≡ true → startsU (from solid l) ≡ true
-unfolding trim
-trim-starts l h = rw (from-twice l) at (end-starts (from solid l) h)
-
--- a text that is trimmed begins with an octet that is neither space nor tab
-trimmed-solid : (l : List ℕ) → startsU (trim l) ≡ true → startsU (from solid l) ≡ true
-unfolding startsU begins trim trimEnd unlessAtEnd
-trimmed-solid l h = go (from solid l) h
+-- and one that begins with no space or tab, and not as a field name does, is neither an agent line nor a rule line.
+pub first-idle : (c : ℕ) (l : List ℕ) → entryOctet true c ≡ false → fieldOf (kindOf (lineText (c ∷ l))) ≡ Field.Other
+first-idle c l h =
+    let no : Field.Other ≡ fieldAt (c ∷ l)
+    = field-no (c ∷ l) (lowerCase c) refl (λ e. absurd (false≢true (sym (not-d c h) ∙ rw e))) (λ e. absurd (false≢true (sym (not-a c h) ∙ rw e))) (λ e. absurd (false≢true (sym (not-u true c h) ∙ rw e))) in
+    field-first c l (not-blank true c h) ∙ rw (← no) (kept (begins ":" (from solid (drop (nameLength Field.Other) (c ∷ l)))))
   where
-    go : (m : List ℕ) → startsU (trimEnd m) ≡ true → startsU m ≡ true
-    go [] h = h
-    go (c ∷ m) h = ends (trimEnd m) h
-      where
-        ends : (t : List ℕ) → startsU (unlessAtEnd c t) ≡ true → startsU (c ∷ m) ≡ true
-        ends [] h = split (blank c) (λ e. absurd (false≢true (rw e at h))) (λ e. rw e at h)
-        ends (y ∷ t) h = h
-
-field-starts : (field : List ℕ) → isField "user-agent" field ≡ true → startsU field ≡ true
-unfolding startsU begins sameIgnoringCase octets same lowerCase upper
-field-starts [] h = absurd (false≢true h)
-field-starts (c ∷ field) h = and-left _ _ h
-
--- a field's line names nobody, if the field doesn't begin so
-field-names : (who text field v : List ℕ) (p : ℕ) → startsU field ≡ false → kindNames who text (fieldKind field p v) ≡ false
-unfolding fieldKind kindNames
-field-names who text field v p h =
-    split (isField "user-agent" field) (λ a. absurd (false≢true (sym h ∙ field-starts field a)))
-    (λ a. split (isField "allow" field) (λ b. rw (a, b)) (λ b. split (isField "disallow" field) (λ c. rw (a, b, c)) (λ c. rw (a, b, c))))
-
--- a line names nobody if its first octet that is neither space nor tab isn't a "u"
-pub may-not-name : (who line : List ℕ) → mayName line ≡ false → false ≡ lineNames who line
-unfolding lineNames mayName kindOf uncommented restKind recordKind kindNames startsU
-may-not-name who line h =
-    let l : List ℕ = upTo (is "#") line in
-    let m : List ℕ = trim l in
-    let field : List ℕ = trim (upTo (is ":") m) in
-    split (empty m) (λ a. rw a)
-    (λ a.
-    split (any (is ":") m)
-    (λ b.
-    rw (a, b)
-    (split (startsU field)
-    (λ u. absurd (false≢true (sym h ∙ cut-starts (is "#") line (trim-starts l (cut-starts (is ":") m (trimmed-solid (upTo (is ":") m) u))))))
-    (λ u. sym (field-names who line field _ _ u))))
-    (λ b. rw (a, b)))
+    kept : (b : Bool) → (if b then Field.Other else Field.Other) ≡ Field.Other
+    kept true = refl
+    kept false = refl

@@ -1,8 +1,8 @@
 -- What a line leads to, by its kind. Past a `let .. else`, the tag of a kind or of a pattern is one of those that weren't asked for.
 -- Assumes nothing.
 use Prim.Native.Nat.{ℕ, _+_}
-use mathlib.Core.Path.{_≡_, refl}
-use mathlib.Core.Bool.{Bool, true, false, _&&_}
+use mathlib.Core.Path.{_≡_, refl, sym, ap, _∙_}
+use mathlib.Core.Bool.{Bool, true, false, _&&_, false≢true}
 use mathlib.Core.List.{List, [], _∷_}
 use native.Mathlib.Omega.{arith}
 use types.Run.{OneOf, miss}
@@ -15,11 +15,24 @@ use Rattle.protocol.proofs.Pattern as P
 use Rattle.protocol.proofs.Kind as K
 use Rattle.protocol.specs.Text.{octetsAt}
 use Rattle.protocol.specs.Readable.{names}
-use Rattle.protocol.specs.Lines.{Line}
+use Rattle.protocol.specs.Lines.{Line, lineText}
 use Rattle.protocol.specs.Kinds.{kindOf, placeOf, lengthOf}
+use Rattle.kinds.specs.declared.fields.Field.{Field}
+use Rattle.kinds.specs.declared.fields.Head.{Head}
+use Rattle.kinds.specs.Fields.{fieldOf, headOf}
+use Rattle.kinds.proofs.Heads.{head-field}
+use Rattle.kinds.proofs.fields.Field as F
 use Rattle.choice.specs.declared.Standing.{Standing}
 use Rattle.decide.specs.declared.fold.Tally.{Tally}
+use Rattle.decide.proofs.Naming.{isAgent, no-agent-named}
 use Rattle.decide.specs.Steps.{kindNames, lineNames, countsAfter, joinsAfter, standingAfter, kindAfter, agentAfter, ruleAfter, lineAfter}
+
+-- the field that the protocol doesn't know
+abbrev isOther : Field → Bool
+isOther Field.Agent = false
+isOther Field.Allow = false
+isOther Field.Disallow = false
+isOther Field.Other = true
 
 -- a pattern that isn't readable isn't walked
 pub not-readable : (path : List ℕ) (l : Line) (side : Side) (counts : Bool) (s : Standing) (p : Pattern)
@@ -29,23 +42,36 @@ not-readable path l side counts s Pattern.Empty h = refl
 not-readable path l side counts s (Pattern.Readable p n) h = absurd (miss (0 ∷ 2 ∷ []) 1 tt h)
 not-readable path l side counts s (Pattern.Unreadable p n) h = refl
 
--- a line that is no agent line names nobody
-not-agent : (who text : List ℕ) (k : Kind) → OneOf (0 ∷ 1 ∷ 2 ∷ 4 ∷ []) (tagOf K.the-type k) → false ≡ kindNames who text k
-unfolding kindNames
-not-agent who text Kind.Blank h = refl
-not-agent who text Kind.Noise h = refl
-not-agent who text Kind.Other h = refl
-not-agent who text (Kind.Agent a) h = absurd (miss (0 ∷ 1 ∷ 2 ∷ 4 ∷ []) 3 tt h)
-not-agent who text (Kind.Rule side p) h = refl
+-- the head of the line at the beginning of a text
+module _ (who rest : List ℕ) (head : Head) (e : head ≡ headOf rest) where
+  pub no-agent-names : OneOf (1 ∷ 2 ∷ 3 ∷ []) (tagOf F.the-type (head .field)) → false ≡ lineNames who (lineText rest)
+  unfolding lineNames
+  no-agent-names h = sym (no-agent-named who (lineText rest) (kindOf (lineText rest)) (go (fieldOf (kindOf (lineText rest))) (rw (head-field rest head e) at h)))
+    where
+      go : (f : Field) → OneOf (1 ∷ 2 ∷ 3 ∷ []) (tagOf F.the-type f) → isAgent f ≡ false
+      go Field.Agent h = absurd (miss (1 ∷ 2 ∷ 3 ∷ []) 0 tt h)
+      go Field.Allow h = refl
+      go Field.Disallow h = refl
+      go Field.Other h = refl
+
+  pub head-idle : head .field ≡ Field.Other → fieldOf (kindOf (lineText rest)) ≡ Field.Other
+  head-idle h = sym (head-field rest head e) ∙ h
+
+  pub head-agent : head .field ≡ Field.Agent → (a : Agent) × (kindOf (lineText rest) ≡ Kind.Agent a)
+  head-agent h = go (kindOf (lineText rest)) (sym (head-field rest head e) ∙ h)
+    where
+      go : (k : Kind) → fieldOf k ≡ Field.Agent → (a : Agent) × (k ≡ Kind.Agent a)
+      go Kind.Blank h = absurd (false≢true (sym (ap isOther h)))
+      go Kind.Noise h = absurd (false≢true (sym (ap isOther h)))
+      go Kind.Other h = absurd (false≢true (sym (ap isOther h)))
+      go (Kind.Agent a) h = (a, refl)
+      go (Kind.Rule Side.Allow p) h = absurd (false≢true (ap isAgent h))
+      go (Kind.Rule Side.Disallow p) h = absurd (false≢true (ap isAgent h))
 
 module _ (who text : List ℕ) (kind : Kind) (k : kind ≡ kindOf text) where
-  pub no-agent-names : OneOf (0 ∷ 1 ∷ 2 ∷ 4 ∷ []) (tagOf K.the-type kind) → false ≡ lineNames who text
-  unfolding lineNames
-  no-agent-names h = rw (← k) (not-agent who text kind h)
-
-  pub agent-names : (a : Agent) → kind ≡ Kind.Agent a → names (octetsAt text (placeOf kind) (lengthOf kind)) who ≡ lineNames who text
+  pub agent-names : (a : Agent) → kindOf text ≡ Kind.Agent a → names (octetsAt text (placeOf kind) (lengthOf kind)) who ≡ lineNames who text
   unfolding lineNames kindNames
-  agent-names a e = rw (← k, e)
+  agent-names a e = rw (k, e)
 
 -- the group of an agent line counts
 module _ (who text : List ℕ) (a : Agent) where
@@ -57,6 +83,20 @@ module _ (who text : List ℕ) (a : Agent) where
       → names (octetsAt text (placeOf (Kind.Agent a)) (lengthOf (Kind.Agent a))) who ≡ countsAfter who text counts joins (Kind.Agent a)
   unfolding countsAfter kindNames
   counts-named counts joins e = rw e
+
+-- a line that is neither an agent line nor a rule line changes nothing
+idle-kind : (who path : List ℕ) (l : Line) (t : Tally) (k : Kind) → fieldOf k ≡ Field.Other → kindAfter who path l t k ≡ t
+unfolding kindAfter joinsAfter countsAfter standingAfter
+idle-kind who path l t Kind.Blank h = let e : t .unread + 0 ≡ t .unread = omega arith in rw e
+idle-kind who path l t Kind.Noise h = let e : t .unread + 0 ≡ t .unread = omega arith in rw e
+idle-kind who path l t Kind.Other h = let e : t .unread + 0 ≡ t .unread = omega arith in rw e
+idle-kind who path l t (Kind.Agent a) h = absurd (false≢true (ap isOther h))
+idle-kind who path l t (Kind.Rule Side.Allow p) h = absurd (false≢true (ap isOther h))
+idle-kind who path l t (Kind.Rule Side.Disallow p) h = absurd (false≢true (ap isOther h))
+
+pub idle-step : (who path : List ℕ) (l : Line) (t : Tally) → fieldOf (kindOf (l .text)) ≡ Field.Other → lineAfter who path l t ≡ t
+unfolding lineAfter
+idle-step who path l t h = idle-kind who path l t (kindOf (l .text)) h
 
 module _ (who path : List ℕ) (l : Line) (t : Tally) where
   pub agent-step : (a : Agent) → Kind.Agent a ≡ kindOf (l .text) → agentAfter who (l .text) t a ≡ lineAfter who path l t

@@ -11,7 +11,7 @@ use Rattle.protocol.specs.declared.Side.{Side}
 use Rattle.protocol.specs.declared.Pattern.{Pattern}
 use Rattle.protocol.specs.declared.Kind.{Kind}
 use Rattle.protocol.specs.Text.{octetsAt}
-use Rattle.protocol.specs.Lines.{Line, placeAt}
+use Rattle.protocol.specs.Lines.{Line, placeAt, lineText}
 use Rattle.protocol.specs.Kinds.{kindOf}
 use Rattle.protocol.specs.Pattern.{shapeOf, weight}
 use Rattle.protocol.proofs.Sizes.{weight-size}
@@ -22,17 +22,21 @@ use Rattle.choice.specs.declared.Standing.{Standing}
 use Rattle.decide.specs.declared.fold.Tally.{Tally}
 use Rattle.choice.specs.Bests.{standing}
 use Rattle.decide.specs.Steps.{standingAfter, Room}
+use Rattle.decide.proofs.Naming.{line-part, part-fits}
 use Rattle.decide.proofs.Bounds.{part-size, weighed-most}
 
-module _ (line : List ℕ) (p : Place) (n : ℕ) where
-  pub pattern-read : take (p .offset + n - p .offset) (drop (p .offset) line) ≡ octetsAt line p n
-  unfolding octetsAt
-  pattern-read = let e : p .offset + n - p .offset ≡ n = omega arith in rw e
+-- the line stands at the beginning of `rest`
+module _ (rest : List ℕ) (p : Place) (n : ℕ) (side : Side) (pattern : Pattern) (k : Kind.Rule side pattern ≡ kindOf (lineText rest)) (g : pattern ≡ Pattern.Readable p n) where
+  pub pattern-fits : p .offset + n ≤ length (lineText rest)
+  pattern-fits =
+      let e : kindOf (lineText rest) ≡ Kind.Rule side (Pattern.Readable p n) = sym k ∙ ap (Kind.Rule side) g in rw e at (value-inside (lineText rest))
 
-  module _ (side : Side) (pattern : Pattern) (k : Kind.Rule side pattern ≡ kindOf line) (g : pattern ≡ Pattern.Readable p n) where
-    pub pattern-fits : p .offset + n ≤ length line
-    pattern-fits =
-        let e : kindOf line ≡ Kind.Rule side (Pattern.Readable p n) = sym k ∙ ap (Kind.Rule side) g in rw e at (value-inside line)
+  pub pattern-inside : p .offset + n ≤ length rest
+  pattern-inside = part-fits rest (p .offset) n pattern-fits
+
+  pub pattern-read : take (p .offset + n - p .offset) (drop (p .offset) rest) ≡ octetsAt (lineText rest) p n
+  unfolding octetsAt
+  pattern-read = let e : p .offset + n - p .offset ≡ n = omega arith in rw e (line-part rest (p .offset) n pattern-fits)
 
 -- a readable rule, in a group that counts or not
 module _ (path : List ℕ) (l : Line) (side : Side) (pattern : Pattern) (p : Place) (n : ℕ) (g : pattern ≡ Pattern.Readable p n) where
@@ -40,12 +44,11 @@ module _ (path : List ℕ) (l : Line) (side : Side) (pattern : Pattern) (p : Pla
   unfolding standingAfter
   not-counting s counts e = rw (g, e)
 
-  pub counting : (s : Standing) (counts : Bool) (w : Weighed) → counts ≡ true
-      → w ≡ weighed (take (p .offset + n - p .offset) (drop (p .offset) (l .text))) path
+  pub counting : (s : Standing) (counts : Bool) (w : Weighed) (v : List ℕ) → counts ≡ true → v ≡ octetsAt (l .text) p n → w ≡ weighed v path
       → standing side (record { weight = w .weight; line = l .number; place = placeAt (l .place .offset + p .offset); length = n }) (w .compared) s
       ≡ standingAfter path l counts s (Kind.Rule side pattern)
   unfolding standingAfter
-  counting s counts w e h = rw (h, pattern-read (l .text) p n, g, e)
+  counting s counts w v e r h = rw (h, r, g, e)
 
 -- there is room for the walk's numbers
 module _ (path scratch : List ℕ) (l : Line) (t : Tally) (room : Room path scratch l t) (p : Place) (n : ℕ) where

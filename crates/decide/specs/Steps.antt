@@ -2,17 +2,15 @@
 -- proofs/ shows that the lines one after the other give document 01's decision. Assumes nothing.
 use Prim.Native.Nat.{ℕ, _+_, _*_, _≤_}
 use mathlib.Core.Bool.{Bool, true, false, _&&_, _||_}
-use mathlib.Core.List.{List, [], _∷_, map}
+use mathlib.Core.List.{List, [], _∷_}
 use lib.ListN.{length}
 use Rattle.lists.specs.Choice.{if_then_else_, oneIf}
-use Rattle.lists.specs.Lists.{from}
 use Rattle.protocol.specs.declared.Place.{Place}
 use Rattle.protocol.specs.declared.Side.{Side}
 use Rattle.protocol.specs.declared.Agent.{Agent}
 use Rattle.protocol.specs.declared.Pattern.{Pattern}
 use Rattle.protocol.specs.declared.Kind.{Kind}
-use Rattle.protocol.specs.Octets.{lowerCase}
-use Rattle.protocol.specs.Text.{begins, solid, octetsAt}
+use Rattle.protocol.specs.Text.{octetsAt}
 use Rattle.protocol.specs.Lines.{Line, placeAt}
 use Rattle.protocol.specs.Readable.{names}
 use Rattle.protocol.specs.Kinds.{kindOf, placeOf, lengthOf, unreadableKind}
@@ -40,10 +38,6 @@ kindNames who text (Kind.Rule side p) = false
 
 unfoldable pub lineNames : List ℕ → List ℕ → Bool
 lineNames who text = kindNames who text (kindOf text)
-
--- the first octet that is neither space nor tab is a "u", in either case, as in every agent line
-unfoldable pub mayName : List ℕ → Bool
-mayName text = begins "u" (map lowerCase (from solid text))
 
 -- the group above counts: an agent line starts a group or joins the one above
 unfoldable pub countsAfter : List ℕ → List ℕ → Bool → Bool → Kind → Bool

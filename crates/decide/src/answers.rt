@@ -90,14 +90,35 @@ fn answer_in(
     choice::conclude(s, t.unread)
 }
 
-// The answer where nothing is refused.
-fn answer(file: &[u8], name: &[u8], path: &[u8]) -> Decision
-    requires { ⌜ decideRefusal (now file) (now name) (now path) ≡ 0 ⌝ }
+// Room for a normalised path of at most 384 octets: to clear more would take longer than to decide by a small file.
+fn answer_short(file: &[u8], name: &[u8], path: &[u8]) -> Decision
+    requires { ⌜ (length (now file) ≤ 512000) × (length (normalPath (now path)) ≤ 384) ⌝ }
+    ensures { λ r. ⌜ r ≡ answered (now (file .entry)) (entries (now (file .entry))) (now (name .entry)) (normalPath (now (path .entry))) ⌝ }
+{
+    let mut buffer = [0u8; 384];
+    let mut scratch = [0u8; 384];
+    answer_in(file, name, path, &mut buffer, &mut scratch)
+}
+
+// Room for the longest normalised path.
+fn answer_long(file: &[u8], name: &[u8], path: &[u8]) -> Decision
+    requires { ⌜ (length (now file) ≤ 512000) × (length (normalPath (now path)) ≤ 6142) ⌝ }
     ensures { λ r. ⌜ r ≡ answered (now (file .entry)) (entries (now (file .entry))) (now (name .entry)) (normalPath (now (path .entry))) ⌝ }
 {
     let mut buffer = [0u8; 6142];
     let mut scratch = [0u8; 6142];
     answer_in(file, name, path, &mut buffer, &mut scratch)
+}
+
+// The answer where nothing is refused.
+fn answer(file: &[u8], name: &[u8], path: &[u8]) -> Decision
+    requires { ⌜ decideRefusal (now file) (now name) (now path) ≡ 0 ⌝ }
+    ensures { λ r. ⌜ r ≡ answered (now (file .entry)) (entries (now (file .entry))) (now (name .entry)) (normalPath (now (path .entry))) ⌝ }
+{
+    if path.len() <= 128 {
+        return answer_short(file, name, path);
+    }
+    answer_long(file, name, path)
 }
 
 // A refused decision fails shut: disallow, and zeros.

@@ -6,11 +6,12 @@ ghost use Prim.Native.Nat.{_+_, _≤_, _<_, _^_};
 ghost use lib.ListN.{length};
 ghost use Rattle.lists.specs.Choice.{oneIf};
 ghost use Rattle.protocol.specs.declared.Kind.{Kind};
-ghost use Rattle.protocol.specs.Lines.{linesOf};
-ghost use Rattle.protocol.specs.Kinds.{kindOf, unreadableKind};
+ghost use Rattle.protocol.specs.Lines.{linesOf, lineText};
+ghost use Rattle.protocol.specs.Kinds.{kindOf, placeOf, lengthOf, unreadableKind};
 ghost use Rattle.decide.specs.Steps.{noTally, lineAt, countsAfter, agentAfter, standingAfter, ruleAfter, lineAfter, tallied, Room};
 use choice::Best;
 use choice::Standing;
+use kinds::fields::Field;
 use protocol::Agent;
 use protocol::Kind;
 use protocol::LineNumber;
@@ -75,8 +76,8 @@ fn joins_counted(t: Tally) -> bool
 
 // The group that an agent line starts or joins counts.
 fn group_counts(t: Tally, who: &[u8], line: &[u8], agent: Agent) -> bool
-    requires { ⌜ Kind.Agent agent ≡ kindOf (now line) ⌝ }
-    ensures { λ r. ⌜ r ≡ countsAfter (now (who .entry)) (now (line .entry)) (t .counts) (t .joins) (Kind.Agent agent) ⌝ }
+    requires { ⌜ Kind.Agent agent ≡ kindOf (lineText (now line)) ⌝ }
+    ensures { λ r. ⌜ r ≡ countsAfter (now (who .entry)) (lineText (now (line .entry))) (t .counts) (t .joins) (Kind.Agent agent) ⌝ }
 {
     if joins_counted(t) {
         return true;
@@ -87,8 +88,8 @@ fn group_counts(t: Tally, who: &[u8], line: &[u8], agent: Agent) -> bool
 
 // After an agent line.
 fn after_agent(t: Tally, who: &[u8], line: &[u8], agent: Agent) -> Tally
-    requires { ⌜ (Kind.Agent agent ≡ kindOf (now line)) × (t .unread + 1 < 2 ^ 64) ⌝ }
-    ensures { λ r. ⌜ r ≡ agentAfter (now (who .entry)) (now (line .entry)) t agent ⌝ }
+    requires { ⌜ (Kind.Agent agent ≡ kindOf (lineText (now line))) × (t .unread + 1 < 2 ^ 64) ⌝ }
+    ensures { λ r. ⌜ r ≡ agentAfter (now (who .entry)) (lineText (now (line .entry))) t agent ⌝ }
 {
     let counts = group_counts(t, who, line, agent);
     let unread = t.unread + unread_agent(agent);
@@ -111,8 +112,8 @@ fn standing_after(
     path: &[u8],
     scratch: &mut [u8],
 ) -> Standing
-    requires { ⌜ (Kind.Rule side pattern ≡ kindOf (now line)) × Room (now path) (now scratch) (lineAt at (now line)) t ⌝ }
-    ensures { λ r. ⌜ r ≡ standingAfter (now (path .entry)) (lineAt at (now (line .entry))) (t .counts) (t .standing) (Kind.Rule side pattern) ⌝ }
+    requires { ⌜ (Kind.Rule side pattern ≡ kindOf (lineText (now line))) × Room (now path) (now scratch) (lineAt at (lineText (now line))) t ⌝ }
+    ensures { λ r. ⌜ r ≡ standingAfter (now (path .entry)) (lineAt at (lineText (now (line .entry)))) (t .counts) (t .standing) (Kind.Rule side pattern) ⌝ }
 {
     let s = t.standing;
     let Pattern::Readable(place, length) = pattern else {
@@ -146,8 +147,8 @@ fn after_rule(
     path: &[u8],
     scratch: &mut [u8],
 ) -> Tally
-    requires { ⌜ (Kind.Rule side pattern ≡ kindOf (now line)) × Room (now path) (now scratch) (lineAt at (now line)) t ⌝ }
-    ensures { λ r. ⌜ r ≡ ruleAfter (now (path .entry)) (lineAt at (now (line .entry))) t side pattern ⌝ }
+    requires { ⌜ (Kind.Rule side pattern ≡ kindOf (lineText (now line))) × Room (now path) (now scratch) (lineAt at (lineText (now line))) t ⌝ }
+    ensures { λ r. ⌜ r ≡ ruleAfter (now (path .entry)) (lineAt at (lineText (now (line .entry)))) t side pattern ⌝ }
 {
     let unread = t.unread + unread_pattern(side, pattern);
     let standing = standing_after(t, line, at, side, pattern, path, scratch);
@@ -161,12 +162,19 @@ fn after_rule(
     }
 }
 
-// After one line more.
-fn step(t: Tally, who: &[u8], line: &[u8], at: Position, path: &[u8], scratch: &mut [u8]) -> Tally
-    requires { ⌜ Room (now path) (now scratch) (lineAt at (now line)) t ⌝ }
-    ensures { λ r. ⌜ r ≡ lineAfter (now (who .entry)) (now (path .entry)) (lineAt at (now (line .entry))) t ⌝ }
+// After one line more, which is an agent line or a rule line.
+fn step(
+    t: Tally,
+    who: &[u8],
+    line: &[u8],
+    at: Position,
+    kind: Kind,
+    path: &[u8],
+    scratch: &mut [u8],
+) -> Tally
+    requires { ⌜ (kind ≡ kindOf (lineText (now line))) × Room (now path) (now scratch) (lineAt at (lineText (now line))) t ⌝ }
+    ensures { λ r. ⌜ r ≡ lineAfter (now (who .entry)) (now (path .entry)) (lineAt at (lineText (now (line .entry)))) t ⌝ }
 {
-    let kind = kinds::line::kind_of(line);
     if let Kind::Agent(agent) = kind {
         return after_agent(t, who, line, agent);
     }
@@ -176,7 +184,16 @@ fn step(t: Tally, who: &[u8], line: &[u8], at: Position, path: &[u8], scratch: &
     after_rule(t, line, at, side, pattern, path, scratch)
 }
 
-// After all lines of a file, where `who` is the name whose groups count.
+// The end of a line's value, as a place in the line.
+fn value_end(kind: Kind, line: &[u8]) -> usize
+    requires { ⌜ kind ≡ kindOf (lineText (now line)) ⌝ }
+    ensures { λ r. ⌜ r ≡ placeOf kind .offset + lengthOf kind ⌝ }
+{
+    let place = kinds::answers::place_of(kind);
+    place.offset + kinds::answers::length_of(kind)
+}
+
+// After all lines of a file, where `who` is the name whose groups count. Lines that are neither agent lines nor rule lines change nothing.
 pub fn fold(file: &[u8], who: &[u8], path: &[u8], scratch: &mut [u8]) -> Tally
     requires { ⌜ (length (now file) ≤ 512000) × (length (now path) ≤ 6142) × (length (now path) ≤ length (now scratch)) ⌝ }
     ensures { λ r. ⌜ r ≡ tallied (now (who .entry)) (now (path .entry)) noTally (linesOf (now (file .entry))) ⌝ }
@@ -185,17 +202,24 @@ pub fn fold(file: &[u8], who: &[u8], path: &[u8], scratch: &mut [u8]) -> Tally
     let mut from = lines::span::first_place(file);
     let mut number = 1;
     while from.offset < file.len() {
-        let span = lines::span::next_line(file, from);
-        let at = Position {
-            number: LineNumber { number },
-            place: from,
-        };
         let start = from.offset;
-        let end = span.end.offset;
-        t = step(t, who, &file[start..end], at, path, scratch);
-        let next = span.next;
-        from = next;
-        number += 1;
+        let rest = &file[start..];
+        let head = kinds::fields::head_of(rest);
+        let field = head.field;
+        if let Field::Other = field {
+            let over = lines::skip::pass(file, start, true);
+            from = lines::span::next_place(file, from, over.octets);
+            number += over.lines + 1;
+        } else {
+            let kind = kinds::line::kind_at(rest, head);
+            let at = Position {
+                number: LineNumber { number },
+                place: from,
+            };
+            t = step(t, who, rest, at, kind, path, scratch);
+            from = lines::span::next_place(file, from, value_end(kind, rest));
+            number += 1;
+        }
     }
     t
 }

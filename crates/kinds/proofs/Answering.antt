@@ -1,23 +1,33 @@
 -- The answer on one line, by its refusal. Assumes nothing.
 use Prim.Native.Nat.{ℕ, zero, suc, _≤_, _<_}
 use mathlib.Core.Path.{_≡_, refl, _∙_}
+use mathlib.Core.Bool.{true}
 use mathlib.Core.List.{List, [], _∷_}
+use native.Mathlib.Omega.{arith}
+use lib.Dec.{ltb}
 use lib.ListN.{length}
-use Rattle.lists.specs.Lists.{upTo}
+use borrow.Author.Tests.{ltb-true, ltb-false}
+use Rattle.lists.specs.Lists.{any, upTo}
+use Rattle.lists.proofs.Bools.{split}
 use Rattle.lists.proofs.Scans.{any-some, any-none}
 use Rattle.protocol.specs.declared.Kind.{Kind}
 use Rattle.protocol.specs.declared.LineAnswer.{LineAnswer}
 use Rattle.protocol.specs.Octets.{lineEnd}
+use Rattle.protocol.specs.Lines.{lineText}
 use Rattle.protocol.specs.Kinds.{kindOf}
 use Rattle.protocol.specs.Refusals.{severalLines, refusal, lineRefusal}
 use Rattle.protocol.specs.Answers.{lineAnswerBy, lineAnswer}
-use Rattle.protocol.proofs.Limits.{not-too-long}
+use Rattle.protocol.proofs.Limits.{not-too-long, line-too-long}
+use Rattle.lists.proofs.Cuts.{upTo-none}
 
 module _ (l : List ℕ) (h : length l ≤ 512_000) where
+  some-ending : any lineEnd l ≡ true → lineRefusal l ≡ 9
+  unfolding lineRefusal refusal
+  some-ending e = not-too-long l (severalLines l ∷ []) h ∙ rw e
+
   -- a line ending comes before the line's end
   pub several-lines : length (upTo lineEnd l) < length l → lineRefusal l ≡ 9
-  unfolding lineRefusal refusal
-  several-lines k = not-too-long l (severalLines l ∷ []) h ∙ rw (any-some lineEnd l k)
+  several-lines k = some-ending (any-some lineEnd l k)
 
   pub one-line : length l ≤ length (upTo lineEnd l) → lineRefusal l ≡ 0
   unfolding lineRefusal refusal
@@ -28,6 +38,17 @@ unfolding lineAnswer lineAnswerBy
 refused-answer l zero e h = absurd (h refl)
 refused-answer l (suc n) e h = rw (← e)
 
-pub kind-answer : (l : List ℕ) (k : Kind) → 0 ≡ lineRefusal l → k ≡ kindOf l → LineAnswer.Kind k ≡ lineAnswer l
+-- a line that isn't refused holds no line ending
+whole-line : (l : List ℕ) → 0 ≡ lineRefusal l → lineText l ≡ l
+whole-line l z =
+    upTo-none lineEnd l
+    (split (any lineEnd l)
+    (λ e.
+    absurd
+    (split (ltb 512_000 (length l)) (λ k. omega (arith, z, line-too-long l (ltb-true 512_000 (length l) k)))
+    (λ k. omega (arith, z, some-ending l (ltb-false 512_000 (length l) k) e))))
+    (λ e. e))
+
+pub kind-answer : (l : List ℕ) (k : Kind) → 0 ≡ lineRefusal l → k ≡ kindOf (lineText l) → LineAnswer.Kind k ≡ lineAnswer l
 unfolding lineAnswer lineAnswerBy
-kind-answer l k e h = rw (← e, h)
+kind-answer l k e h = rw (← e, h, whole-line l e)

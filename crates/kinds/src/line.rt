@@ -1,11 +1,19 @@
-// The kind of a line, given without its line ending.
+// The kind of a line, read where it stands: r is the rest of a file from the line's start on.
 
 ghost use mathlib.Core.Path.{_≡_};
-ghost use Prim.Native.Nat.{_+_, _<_, _^_};
-ghost use lib.ListN.{length};
+ghost use Prim.Native.Nat.{_≤_};
+ghost use mathlib.Core.Bool.{true};
+ghost use mathlib.Core.List.{[]};
+ghost use lib.ListN.{length, drop};
 ghost use Rattle.lists.specs.Lists.{upTo};
-ghost use Rattle.protocol.specs.Octets.{is};
-ghost use Rattle.protocol.specs.Kinds.{agentAt, patternAt, fieldKind, recordKind, restKind, kindOf};
+ghost use Rattle.protocol.specs.Text.{trimEnd};
+ghost use Rattle.protocol.specs.Lines.{lineText};
+ghost use Rattle.protocol.specs.Readable.{wellFormed};
+ghost use Rattle.protocol.specs.Kinds.{agentAt, patternAt, kindOf};
+ghost use Rattle.kinds.specs.declared.fields.Field.{Field};
+ghost use Rattle.kinds.specs.Fields.{fieldOf, sideOf, headOf, stop, mark, ended, valueAt};
+use crate::fields::Field;
+use crate::fields::Head;
 use protocol::Agent;
 use protocol::Kind;
 use protocol::Pattern;
@@ -40,65 +48,163 @@ fn pattern_at(place: Place, value: &[u8]) -> Pattern
     }
 }
 
-// The kind of a line with that field and value. Only a rule's value is searched for a pattern.
-fn field_kind(field: &[u8], place: Place, value: &[u8]) -> Kind
-    ensures { λ r. ⌜ r ≡ fieldKind (now (field .entry)) (place .offset) (now (value .entry)) ⌝ }
+// "#", CR or LF: the end of what is examined of a line. Most octets are past all three.
+fn is_stop(x: u8) -> bool
+    ensures { λ r. ⌜ r ≡ stop x ⌝ }
 {
-    if crate::fields::field_is(0, field) {
-        return Kind::Agent(agent_at(place, value));
+    if b'#' < x {
+        return false;
     }
-    if crate::fields::field_is(1, field) {
-        return Kind::Rule(Side::Allow, pattern_at(place, value));
+    if x == b'#' {
+        return true;
     }
-    if crate::fields::field_is(2, field) {
-        return Kind::Rule(Side::Disallow, pattern_at(place, value));
-    }
-    Kind::Other
+    octets::is_line_end(x)
 }
 
-// The kind of a line that has a colon. What is left of the line, l, stands at the place `at` of it.
-fn record_kind(at: Place, l: &[u8], colon: usize) -> Kind
-    requires { ⌜ at .offset + length (now l) < 2 ^ 64 ⌝ }
-    requires { ⌜ (colon ≡ length (upTo (is ":") (now l))) × (colon < length (now l)) ⌝ }
-    ensures { λ r. ⌜ r ≡ recordKind (at .offset) (now (l .entry)) ⌝ }
+// The octets in front of the first stop.
+fn examined(s: &[u8]) -> usize
+    ensures { λ r. ⌜ r ≡ length (upTo stop (now (s .entry))) ⌝ }
 {
-    let front = &l[..colon];
-    let field = lines::text::trim(front);
-    let first = field.start;
-    let last = field.end;
-    let behind = colon + 1;
-    let back = &l[behind..];
-    let value = lines::text::trim(back);
-    let start = value.start;
-    let end = value.end;
-    let place = Place {
-        offset: at.offset + behind + start,
-    };
-    field_kind(&front[first..last], place, &back[start..end])
+    let mut i = 0;
+    while i < s.len() {
+        if is_stop(s[i]) {
+            return i;
+        }
+        i += 1;
+    }
+    i
 }
 
-// The kind of what is left of a line.
-fn rest_kind(at: Place, l: &[u8]) -> Kind
-    requires { ⌜ at .offset + length (now l) < 2 ^ 64 ⌝ }
-    ensures { λ r. ⌜ r ≡ restKind (at .offset) (now (l .entry)) ⌝ }
+// The octets of the value that a text begins with.
+fn value_length(s: &[u8]) -> usize
+    ensures { λ r. ⌜ r ≡ length (trimEnd (upTo stop (now (s .entry)))) ⌝ }
 {
-    if l.len() == 0 {
+    let end = examined(s);
+    lines::text::trimmed_length(&s[..end])
+}
+
+// The agent of the value that begins there.
+pub fn agent_of(r: &[u8], value: usize) -> Agent
+    requires { ⌜ value ≤ length (now r) ⌝ }
+    ensures { λ a. ⌜ a ≡ agentAt value (valueAt value (now (r .entry))) ⌝ }
+{
+    let rest = &r[value..];
+    let end = value_length(rest);
+    agent_at(Place { offset: value }, &rest[..end])
+}
+
+// Nothing is examined from n on.
+fn ends_at(s: &[u8], n: usize) -> bool
+    ensures { λ r. ⌜ r ≡ ended (drop n (now (s .entry))) ⌝ }
+{
+    if s.len() <= n {
+        return true;
+    }
+    is_stop(s[n])
+}
+
+// The pattern of a value of whole characters.
+fn formed_pattern(place: Place, value: &[u8]) -> Pattern
+    requires { ⌜ wellFormed [] (now value) ≡ true ⌝ }
+    ensures { λ r. ⌜ r ≡ patternAt (place .offset) (now (value .entry)) ⌝ }
+{
+    if value.len() == 0 {
+        return Pattern::Empty;
+    }
+    if value[0] == b'/' {
+        return Pattern::Readable(place, value.len());
+    }
+    Pattern::Unreadable(place, value.len())
+}
+
+// The pattern of the value that begins there. Most are of ordinary octets alone, which hold no space and are whole characters.
+pub fn pattern_of(r: &[u8], value: usize) -> Pattern
+    requires { ⌜ value ≤ length (now r) ⌝ }
+    ensures { λ p. ⌜ p ≡ patternAt value (valueAt value (now (r .entry))) ⌝ }
+{
+    let rest = &r[value..];
+    let n = lines::readable::ordinary_front(rest);
+    if ends_at(rest, n) {
+        return formed_pattern(Place { offset: value }, &rest[..n]);
+    }
+    let end = value_length(rest);
+    pattern_at(Place { offset: value }, &rest[..end])
+}
+
+// A colon or a stop. Most octets are past all of them.
+fn is_mark(x: u8) -> bool
+    ensures { λ r. ⌜ r ≡ mark x ⌝ }
+{
+    if b':' < x {
+        return false;
+    }
+    if x == b':' {
+        return true;
+    }
+    is_stop(x)
+}
+
+// The octets in front of the first colon or stop.
+fn field_end(s: &[u8]) -> usize
+    ensures { λ r. ⌜ r ≡ length (upTo mark (now (s .entry))) ⌝ }
+{
+    let mut i = 0;
+    while i < s.len() {
+        if is_mark(s[i]) {
+            return i;
+        }
+        i += 1;
+    }
+    i
+}
+
+// The kind of a line that has no field that the protocol knows.
+fn idle_kind(r: &[u8]) -> Kind
+    requires { ⌜ fieldOf (kindOf (lineText (now r))) ≡ Field.Other ⌝ }
+    ensures { λ k. ⌜ k ≡ kindOf (lineText (now (r .entry))) ⌝ }
+{
+    let start = lines::text::lead(r);
+    let rest = &r[start..];
+    let n = field_end(rest);
+    if crate::fields::colon_at(rest, n) {
+        return Kind::Other;
+    }
+    if n == 0 {
         return Kind::Blank;
     }
-    let colon = lines::text::find(l, b':');
-    if colon == l.len() {
-        return Kind::Noise;
-    }
-    record_kind(at, l, colon)
+    Kind::Noise
 }
 
-pub fn kind_of(line: &[u8]) -> Kind
-    ensures { λ r. ⌜ r ≡ kindOf (now (line .entry)) ⌝ }
+// The side of a rule's field. A field that is no rule's has none; Allow stands for it.
+fn side_of(field: Field) -> Side
+    ensures { λ r. ⌜ r ≡ sideOf field ⌝ }
 {
-    let comment = lines::text::find(line, b'#');
-    let body = &line[..comment];
-    let part = lines::text::trim(body);
-    let start = part.start;
-    let end = part.end;
-    rest_kind(Place { offset: start }, &body[start..end])
+    match field {
+        Field::Agent => Side::Allow,
+        Field::Allow => Side::Allow,
+        Field::Disallow => Side::Disallow,
+        Field::Other => Side::Allow,
+    }
+}
+
+// The kind of a line whose head is known.
+pub fn kind_at(r: &[u8], head: Head) -> Kind
+    requires { ⌜ head ≡ headOf (now r) ⌝ }
+    ensures { λ k. ⌜ k ≡ kindOf (lineText (now (r .entry))) ⌝ }
+{
+    let field = head.field;
+    if let Field::Other = field {
+        return idle_kind(r);
+    }
+    if let Field::Agent = field {
+        return Kind::Agent(agent_of(r, head.value));
+    }
+    let side = side_of(field);
+    Kind::Rule(side, pattern_of(r, head.value))
+}
+
+pub fn kind_of(r: &[u8]) -> Kind
+    ensures { λ k. ⌜ k ≡ kindOf (lineText (now (r .entry))) ⌝ }
+{
+    kind_at(r, crate::fields::head_of(r))
 }

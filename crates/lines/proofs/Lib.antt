@@ -1,4 +1,7 @@
-mod Due
+pub mod Comparing
+pub mod Due
 mod Endings
 pub mod Forward
+mod Seeks
+pub mod Skips
 pub mod Trims

@@ -1,19 +1,15 @@
--- Spaces and tabs at the ends of a text: one octet at a time from its end, and by the two places of what is left. Assumes nothing.
+-- Spaces and tabs at the end of a text, one octet at a time; and what is left of a text without those at both ends. Assumes nothing.
 use Prim.Native.Nat.{ℕ, zero, suc, _+_, _-_, _≤_, _<_}
 use mathlib.Core.Path.{_≡_, refl, sym, ap, _∙_}
 use mathlib.Core.Bool.{true, false}
 use mathlib.Core.List.{List, [], _∷_}
 use native.Mathlib.Omega.{arith}
-use lib.ListN.{length, take, drop, getD}
+use lib.ListN.{length, take, getD}
 use lib.Seq.{length-take-le}
 use Rattle.protocol.specs.Octets.{blank}
-use Rattle.lists.specs.Lists.{from}
-use Rattle.lists.proofs.Places.{occurs-read, occurs-fits}
-use Rattle.lists.proofs.Scans.{rest-of, drop-upTo}
-use Rattle.protocol.specs.Text.{solid, lead, unlessAtEnd, trimEnd, trim}
+use Rattle.lists.proofs.Places.{occurs-fits}
+use Rattle.protocol.specs.Text.{lead, unlessAtEnd, trimEnd, trim}
 use Rattle.protocol.proofs.Values.{trimmed}
-use Rattle.lines.specs.declared.text.Part.{Part}
-use Rattle.lines.specs.Parts.{trimmedPart}
 
 -- the n octets in front, and one more
 trim-blank : (l : List ℕ) (n : ℕ) → n < length l → blank (getD l n 0) ≡ true → trimEnd (take (suc n) l) ≡ trimEnd (take n l)
@@ -47,31 +43,3 @@ end-none l = refl
 -- what is left without spaces and tabs at both ends lies inside the text
 pub trim-fits : (l : List ℕ) → lead l + length (trim l) ≤ length l
 trim-fits l = occurs-fits l (trim l) (lead l) (trimmed l)
-
--- and is read from its two places
-pub trim-read : (l : List ℕ) → take (length (trim l)) (drop (lead l) l) ≡ trim l
-trim-read l = occurs-read l (trim l) (lead l) (trimmed l)
-
--- the text from its first octet that is neither a space nor a tab on
-pub past-lead : (l : List ℕ) → take (length l - lead l) (drop (lead l) l) ≡ from solid l
-unfolding lead
-past-lead l = rest-of (lead l) l ∙ drop-upTo solid l
-
--- what the code knows of a text by the two places of its trimmed part
-module _ (l : List ℕ) (q : Part) (e : q ≡ trimmedPart l) where
-  pub part-start : q .start ≡ lead l
-  unfolding trimmedPart
-  part-start = ap (λ (r : Part). r .start) e
-
-  pub part-size : q .end ≡ q .start + length (trim l)
-  unfolding trimmedPart
-  part-size = rw e
-
-  pub part-inside : q .end ≤ length l
-  part-inside = omega (arith, part-start, part-size, trim-fits l)
-
-  pub part-length : q .end - q .start ≡ length (trim l)
-  part-length = omega (arith, part-size)
-
-  pub part-read : take (q .end - q .start) (drop (q .start) l) ≡ trim l
-  part-read = rw (part-length, part-start) (trim-read l)

@@ -76,17 +76,10 @@ fn due_past(due: Due, x: u8) -> Due
 }
 
 // How many ordinary octets stand in front.
-fn ordinary_front(s: &[u8]) -> usize
+pub fn ordinary_front(s: &[u8]) -> usize
     ensures { λ r. ⌜ r ≡ length (upTo unusual (now (s .entry))) ⌝ }
 {
-    let mut i = 0;
-    while i < s.len() {
-        if !is_ordinary(s[i]) {
-            return i;
-        }
-        i += 1;
-    }
-    i
+    crate::text::seek(s, 0, 0x24, 0x7F, false)
 }
 
 // Whole characters only.

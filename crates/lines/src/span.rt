@@ -2,6 +2,8 @@
 
 ghost use mathlib.Core.Path.{_≡_};
 ghost use mathlib.Core.Bool.{_&&_};
+ghost use Prim.Native.Nat.{_+_, _≤_};
+ghost use lib.ListN.{length};
 ghost use Rattle.protocol.specs.Octets.{is};
 ghost use Rattle.protocol.specs.Lines.{marked, skipped, placeAt, endingLength};
 ghost use Rattle.lines.specs.Spans.{lineAt};
@@ -89,4 +91,18 @@ pub fn next_line(file: &[u8], from: Place) -> Span
         end: Place { offset: end },
         next: Place { offset: next },
     }
+}
+
+// Where the next line begins, looked for from some octets behind `from` on.
+pub fn next_place(file: &[u8], from: Place, octets: usize) -> Place
+    requires { ⌜ from .offset + octets ≤ length (now file) ⌝ }
+    ensures { λ r. ⌜ r ≡ lineAt (now (file .entry)) (placeAt (from .offset + octets)) .next ⌝ }
+{
+    let span = next_line(
+        file,
+        Place {
+            offset: from.offset + octets,
+        },
+    );
+    span.next
 }

@@ -1,4 +1,5 @@
 pub mod Bools
+pub mod Cuts
 pub mod Fronts
 pub mod Members
 pub mod Numbers

@@ -1,12 +1,12 @@
 -- A list read from an index on, up to the first element that passes a test: what each turn of a search finds. Assumes nothing.
-use Prim.Native.Nat.{ℕ, suc, _+_, _-_, _≤_, _<_}
+use Prim.Native.Nat.{ℕ, zero, suc, _+_, _-_, _≤_, _<_}
 use mathlib.Core.Path.{_≡_, refl, sym, ap, _∙_}
-use mathlib.Core.Bool.{Bool, true, false, true≢false}
-use mathlib.Core.List.{List, [], _∷_, _++_, tail}
+use mathlib.Core.Bool.{Bool, true, false}
+use mathlib.Core.List.{List, [], _∷_, tail}
 use native.Mathlib.Omega.{arith}
 use native.Mathlib.Numerals.{add-one}
-use lib.ListN.{length, take, drop, getD, length-append, length-drop, take-append-drop, drop-of-length-le}
-use lib.Seq.{drop-cons, drop-drop, drop-at, take-all, take-append-seam, length-take-le}
+use lib.ListN.{length, take, drop, getD, length-append, length-drop, drop-of-length-le}
+use lib.Seq.{drop-cons, drop-drop, drop-at, take-all, take-take, take-append-seam}
 use Rattle.lists.specs.Lists.{any, upTo, from}
 use Rattle.lists.proofs.Bools.{split}
 use Rattle.lists.proofs.Parts.{upTo-stop, upTo-on, upTo-from}
@@ -19,6 +19,13 @@ module _ {A : Type 0} where
   -- what is lent of a slice from an index on
   pub rest-of : (k : ℕ) (l : List A) → take (length l - k) (drop k l) ≡ drop k l
   rest-of k l = take-all (length l - k) (drop k l) (simp length-drop (omega arith))
+
+  -- a part of a list's front is that part of the list
+  pub front-part : (l : List A) (m p n : ℕ) → p + n ≤ m → take n (drop p (take m l)) ≡ take n (drop p l)
+  front-part l m zero n h = take-take n m l (omega arith)
+  front-part l zero (suc p) n h = absurd (omega arith)
+  front-part [] (suc m) (suc p) n h = refl
+  front-part (x ∷ l) (suc m) (suc p) n h = front-part l m p n (omega arith)
 
   -- all but the first element
   drop-first : (l : List A) → drop 1 l ≡ tail l
@@ -37,23 +44,6 @@ module _ {A : Type 0} (f : A → Bool) where
 
     pub scan-on : i < length l → f (getD l i d) ≡ false → length (upTo f (drop i l)) ≡ suc (length (upTo f (drop (i + 1) l)))
     scan-on h e = rw (drop-one l i d h, upTo-on f (getD l i d) (drop (i + 1) l) e)
-
-  -- elements of which none passes the test
-  none-stops : (a b : List A) → any f a ≡ false → length (upTo f (a ++ b)) ≡ length a + length (upTo f b)
-  unfolding any
-  none-stops [] b h = omega arith
-  none-stops (x ∷ a) b h =
-      split (f x) (λ e. absurd (true≢false (rw e at h)))
-      (λ e. rw (upTo-on f x (a ++ b) e) (omega (arith, none-stops a b (rw e at h))))
-
-  pub scan-past : (l : List A) (i n : ℕ) → i + n ≤ length l → any f (take n (drop i l)) ≡ false
-      → length (upTo f (drop i l)) ≡ n + length (upTo f (drop (i + n) l))
-  scan-past l i n h e =
-      let rest : List A = drop i l in
-      let size : length (take n rest) ≡ n = length-take-le n rest (simp length-drop (omega arith)) in
-      let cut : length (upTo f rest) ≡ length (take n rest) + length (upTo f (drop n rest))
-      = rw (take-append-drop n rest) at (none-stops (take n rest) (drop n rest) e) in
-      cut ∙ rw (size, drop-drop n i l)
 
   pub upTo-fits : (l : List A) → length (upTo f l) ≤ length l
   upTo-fits l = omega (arith, ap length (upTo-from f l), length-append (upTo f l) (from f l))

@@ -1,7 +1,7 @@
 -- Tests of lists, from one index to the next as a loop goes. Assumes nothing.
 use Prim.Native.Nat.{ℕ, suc, _+_, _≤_, _<_}
-use mathlib.Core.Path.{_≡_, refl, sym, ap, ap₂}
-use mathlib.Core.Bool.{Bool, true, false, _||_, and-true, and-false, false≢true, true≢false}
+use mathlib.Core.Path.{_≡_, refl, ap, ap₂}
+use mathlib.Core.Bool.{Bool, true, false, and-true, and-false, false≢true}
 use mathlib.Core.Logic.{_↔_}
 use mathlib.Core.List.{List, [], _∷_}
 use native.Mathlib.Omega.{arith}
@@ -9,7 +9,7 @@ use lib.Dec.{eqb}
 use lib.ListN.{length, drop, getD, drop-of-length-le}
 use borrow.Author.Tests.{eqb-true, eq-eqb, ne-eqb}
 use Rattle.lists.specs.Lists.{empty, all, any, same}
-use Rattle.lists.proofs.Bools.{split, and-left, and-right}
+use Rattle.lists.proofs.Bools.{and-left, and-right}
 use Rattle.lists.proofs.Scans.{drop-one}
 
 module _ {A : Type 0} where
@@ -48,11 +48,6 @@ module _ {A : Type 0} (f : A → Bool) (l : List A) (i : ℕ) where
     unfolding any
     any-on e = rw (drop-one l i d h, e)
 
-    -- a search that doesn't stop: found before, or here
-    pub any-met : (found : Bool) → f (getD l i d) ≡ true → true ≡ (found || any f (drop i l))
-    any-met true e = refl
-    any-met false e = sym (any-here e)
-
 -- the test of two lists is their equality
 same-known : (l m : List ℕ) → same l m ≡ true → l ≡ m
 unfolding same
@@ -69,14 +64,6 @@ same-self (x ∷ l) = rw (eq-eqb x x refl) (same-self l)
 
 pub same-equal : (l m : List ℕ) → (same l m ≡ true) ↔ (l ≡ m)
 same-equal l m = (same-known l m, λ e. rw e (same-self m))
-
--- where a test is passed only with another, and nothing passes the other
-pub any-only : {A : Type 0} (f g : A → Bool) → ((x : A) → f x ≡ true → g x ≡ true) → (l : List A) → any g l ≡ false → any f l ≡ false
-unfolding any
-any-only f g h [] e = refl
-any-only f g h (x ∷ l) e =
-    split (f x) (λ p. absurd (true≢false (rw (h x p) at e)))
-    (λ p. rw p (split (g x) (λ q. absurd (true≢false (rw q at e))) (λ q. any-only f g h l (rw q at e))))
 
 -- lists of two lengths are not the same
 pub same-length : (l m : List ℕ) → (length l ≡ length m → ⊥) → same l m ≡ false

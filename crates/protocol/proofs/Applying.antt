@@ -11,7 +11,7 @@ use Rattle.lists.proofs.Bools.{split, and-left, and-right}
 use Rattle.lists.proofs.Members.{no-member, any-member}
 use Rattle.protocol.specs.Readable.{everyone, names}
 use Rattle.protocol.specs.Entries.{Role, agent, rule, Entry}
-use Rattle.protocol.specs.Rules.{Rule, valueOf, namedBy, naming, someGroupNames, groupNames, ruleIn, rulesIn, addressee, applying}
+use Rattle.protocol.specs.Rules.{Rule, valueOf, namedBy, entryNames, someGroupNames, groupNames, ruleIn, rulesIn, addressee, applying}
 use Rattle.protocol.specs.Meaning.{GroupNames, ruleOf, RuleFor}
 
 -- an entry that names who
@@ -25,7 +25,7 @@ module _ (file who : List ℕ) where
   naming-known (rule side) e h = absurd (false≢true h)
 
 module _ (file : List ℕ) (es : List Entry) (who : List ℕ) where
-  known-naming : (g : ℕ) (n : GroupNames file es who g) → naming file who (n .entry) ≡ true
+  known-naming : (g : ℕ) (n : GroupNames file es who g) → entryNames file who (n .entry) ≡ true
   unfolding namedBy
   known-naming g n = rw (n .role, ne-eqb (n .entry .group) 0 (λ k. n .some (sym (n .group) ∙ k)), n .named)
 
@@ -33,11 +33,11 @@ module _ (file : List ℕ) (es : List Entry) (who : List ℕ) where
   pub group-names : (g : ℕ) → (groupNames file es who g ≡ true) ↔ GroupNames file es who g
   unfolding groupNames
   group-names g =
-      let (there, back) = any-member (λ e. eqb (e .group) g && naming file who e) es in (
+      let (there, back) = any-member (λ e. eqb (e .group) g && entryNames file who e) es in (
         λ h.
             let (e, m, p) = there h in
-            let here : e .group ≡ g = eqb-true (e .group) g (and-left (eqb (e .group) g) (naming file who e) p) in
-            let (a, z, n) = naming-known file who (e .role) e (and-right (eqb (e .group) g) (naming file who e) p) in
+            let here : e .group ≡ g = eqb-true (e .group) g (and-left (eqb (e .group) g) (entryNames file who e) p) in
+            let (a, z, n) = naming-known file who (e .role) e (and-right (eqb (e .group) g) (entryNames file who e) p) in
             record { entry = e; among = m; role = a; group = here; some = λ k. z (here ∙ k); named = n },
         λ n. back (n .entry, n .among, rw (eq-eqb (n .entry .group) g (n .group)) (known-naming g n)),
       )
@@ -46,7 +46,7 @@ module _ (file : List ℕ) (es : List Entry) (who : List ℕ) where
   pub some-group-names : (someGroupNames file es who ≡ true) ↔ ((g : ℕ) × GroupNames file es who g)
   unfolding someGroupNames
   some-group-names =
-      let (there, back) = any-member (naming file who) es in (
+      let (there, back) = any-member (entryNames file who) es in (
         λ h.
             let (e, m, p) = there h in
             let (a, z, n) = naming-known file who (e .role) e p in

@@ -13,11 +13,11 @@ use Rattle.lists.proofs.Bools.{split}
 use Rattle.lists.proofs.Parts.{upTo-stop, upTo-on, from-stop, from-on}
 use Rattle.protocol.specs.Octets.{is, lineEnd}
 use Rattle.protocol.specs.Text.{begins}
-use Rattle.protocol.specs.Lines.{line, closes, joined, put, linesFrom, lineText, endingLength, lineLength}
+use Rattle.protocol.specs.Lines.{Line, line, closes, joined, put, linesFrom, lineText, endingLength, lineLength}
 
 -- an octet ends its line, is the CR of a CR LF, or is an octet of its line's text
 module _ (c : ℕ) (lf : Bool) where
-  closing-ends : closes c lf ≡ true → lineEnd c ≡ true
+  pub closing-ends : closes c lf ≡ true → lineEnd c ≡ true
   unfolding lineEnd
   closing-ends = go (is "\r" c) (is "\n" c) lf
     where
@@ -65,7 +65,7 @@ module _ (c : ℕ) (l : List ℕ) where
   ending-two e g = rw (g, e)
 
   -- one octet of the text more
-  length-on : lineEnd c ≡ false → lineLength (c ∷ l) ≡ suc (lineLength l)
+  pub length-on : lineEnd c ≡ false → lineLength (c ∷ l) ≡ suc (lineLength l)
   unfolding lineLength
   length-on g = rw (upTo-on lineEnd c l g, from-on lineEnd c l g) (omega arith)
 
@@ -116,6 +116,35 @@ front n p c [] =
 front n p c (d ∷ l) =
     split (closes c (is "\n" d)) (λ e. front-closed n p c (d ∷ l) e)
     (λ e. split (lineEnd c) (λ g. front-cr-lf n p c d l e g) (λ g. front-text n p c (d ∷ l) g (front n (p + 1) d l)))
+
+-- the lines behind the first one of a text, which has the number n and the place p
+abbrev pub linesBehind : ℕ → ℕ → List ℕ → List Line
+linesBehind n p l = linesFrom (n + 1) (p + lineLength l) (drop (lineLength l) l)
+
+pub first-line : (n p c : ℕ) (l : List ℕ) → linesFrom n p (c ∷ l) ≡ line n p (lineText (c ∷ l)) ∷ linesBehind n p (c ∷ l)
+unfolding Front
+first-line = front
+
+-- behind an octet that closes its line
+pub behind-closed : (n p c : ℕ) (l : List ℕ) → closes c (begins "\n" l) ≡ true → linesBehind n p (c ∷ l) ≡ linesFrom (n + 1) (p + 1) l
+unfolding lineLength
+behind-closed n p c l e =
+    let g = closing-ends c (begins "\n" l) e in rw (upTo-stop lineEnd c l g, from-stop lineEnd c l g, ending-one c l e)
+
+-- behind the CR of a CR LF
+behind-cr : (n p c : ℕ) (l : List ℕ) → closes c (begins "\n" l) ≡ false → lineEnd c ≡ true → linesBehind n p (c ∷ l) ≡ linesBehind n (p + 1) l
+unfolding lineLength begins
+behind-cr n p c [] e g = absurd (true≢false (sym (open-cr c false e g .1)))
+behind-cr n p c (d ∷ l) e g =
+    let q : p + 1 + 1 ≡ p + 2 = omega arith in
+    let lf : closes d (begins "\n" l) ≡ true = lf-closes d (begins "\n" l) (open-cr c (is "\n" d) e g .1) in
+    rw (upTo-stop lineEnd c (d ∷ l) g, from-stop lineEnd c (d ∷ l) g, ending-two c (d ∷ l) e g) (rw (← q) (sym (behind-closed n (p + 1) d l lf)))
+
+-- and behind any octet that closes no line
+pub behind-open : (n p c : ℕ) (l : List ℕ) → closes c (begins "\n" l) ≡ false → linesBehind n p (c ∷ l) ≡ linesBehind n (p + 1) l
+behind-open n p c l e =
+    split (lineEnd c) (λ g. behind-cr n p c l e g)
+    (λ g. let q : p + 1 + lineLength l ≡ p + suc (lineLength l) = omega arith in rw (length-on c l g, q))
 
 -- a line and its ending are no more than what is left
 ending-fits : (c : ℕ) (l : List ℕ) → lineEnd c ≡ true → endingLength (c ∷ l) ≤ suc (length l)

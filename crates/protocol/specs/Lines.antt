@@ -31,12 +31,13 @@ line n p t = record { number = lineNumber n; place = placeAt p; text = t }
 abbrev pub closes : ℕ → Bool → Bool
 closes c lf = is "\n" c || (is "\r" c && not lf)
 
--- octets at place p in front of the lines behind them: they begin the first of these, or the file ends with them
+-- octets t at place p, in front of the lines behind them: they begin the first of these, or the file ends with them; n is the number of the line that they begin
 unfoldable pub joined : ℕ → ℕ → List ℕ → List Line → List Line
 joined n p t [] = line n p t ∷ []
 joined n p t (l ∷ ls) = line n p (t ++ l .text) ∷ ls
 
--- the octet c at place p in front of the lines behind it. The CR of a CR LF is no octet of its line.
+-- the octet c at place p, in front of the lines behind it; lf where an LF follows it. It ends line n, whose text is then empty from here on, or is an octet of
+-- it. The CR of a CR LF is no octet of its line.
 unfoldable pub put : ℕ → ℕ → ℕ → Bool → List Line → List Line
 put n p c lf ls = if closes c lf then line n p [] ∷ ls else joined n p (if is "\r" c then [] else c ∷ []) ls
 

@@ -3,7 +3,7 @@ use Prim.Native.Nat.{ℕ, _+_}
 use mathlib.Core.Bool.{Bool, true}
 use mathlib.Core.List.{List, [], _∷_, _++_, dropLast}
 use lib.ListN.{length}
-use Rattle.lists.specs.Choice.{if_then_else_}
+use Rattle.lists.specs.Choice.{if_then_else_, oneIf}
 use Rattle.lists.specs.Lists.{upTo}
 use Rattle.protocol.specs.Octets.{is}
 use Rattle.protocol.specs.Text.{ends}
@@ -24,7 +24,7 @@ shapeOf raw = record { text = normal true 0 (rawText raw); endMark = ends "$" ra
 
 -- The weight, document 01's own term: "A pattern's weight is its normalised octets, with one for each star and one for the end mark"
 unfoldable pub weight : Shape → ℕ
-weight s = length (s .text) + (if s .endMark then 1 else 0)
+weight s = length (s .text) + oneIf (s .endMark)
 
 abbrev pub isStar : ℕ → Bool
 isStar x = is "*" x

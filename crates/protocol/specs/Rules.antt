@@ -3,7 +3,7 @@ use Prim.Native.Nat.{ℕ}
 use mathlib.Core.Bool.{Bool, false, _&&_, not}
 use mathlib.Core.List.{List, [], _∷_, _++_}
 use lib.Dec.{eqb}
-use Rattle.lists.specs.Choice.{if_then_else_}
+use Rattle.lists.specs.Choice.{if_then_else_, oneIf}
 use Rattle.lists.specs.Lists.{empty, any, total}
 use Rattle.protocol.specs.declared.LineNumber.{LineNumber}
 use Rattle.protocol.specs.declared.Place.{Place}
@@ -16,21 +16,21 @@ use Rattle.protocol.specs.Entries.{Role, agent, rule, Entry}
 abbrev pub valueOf : List ℕ → Entry → List ℕ
 valueOf file e = octetsAt file (e .place) (e .length)
 
--- the entry is an agent line that names who; group 0 is no group
+-- the entry, of that role, is an agent line that names who; group 0 is no group
 unfoldable pub namedBy : List ℕ → List ℕ → Role → Entry → Bool
 namedBy file who agent e = not (eqb (e .group) 0) && names (valueOf file e) who
 namedBy file who (rule side) e = false
 
-abbrev pub naming : List ℕ → List ℕ → Entry → Bool
-naming file who e = namedBy file who (e .role) e
+abbrev pub entryNames : List ℕ → List ℕ → Entry → Bool
+entryNames file who e = namedBy file who (e .role) e
 
 -- some group names who
 unfoldable pub someGroupNames : List ℕ → List Entry → List ℕ → Bool
-someGroupNames file es who = any (naming file who) es
+someGroupNames file es who = any (entryNames file who) es
 
 -- the group g names who
 unfoldable pub groupNames : List ℕ → List Entry → List ℕ → ℕ → Bool
-groupNames file es who g = any (λ e. eqb (e .group) g && naming file who e) es
+groupNames file es who g = any (λ e. eqb (e .group) g && entryNames file who e) es
 
 -- a rule line: its line, its side, and the place and length of its pattern in the file
 pub record Rule : Type 0 where
@@ -63,4 +63,4 @@ unreadable (rule side) v = not (empty v) && not (readablePattern v)
 
 -- The unread count, document 01's own term: "The unread count is the number of unreadable agent and rule lines in the whole file"
 unfoldable pub unread : List ℕ → List Entry → ℕ
-unread file es = total (λ e. if unreadable (e .role) (valueOf file e) then 1 else 0) es
+unread file es = total (λ e. oneIf (unreadable (e .role) (valueOf file e))) es

@@ -17,7 +17,7 @@ tried [] t n = record { stood = true; count = n }
 tried (a ∷ r) [] n = record { stood = false; count = n }
 tried (a ∷ r) (b ∷ t) n = if eqb a b then tried r t (n + 1) else record { stood = false; count = n + 1 }
 
--- "fails at no cost"
+-- "fails at no cost": n pairs were compared before. There is no place past a run that failed; 0 stands for it
 abbrev pub failed : ℕ → Walked
 failed n = record { stood = false; past = 0; count = n }
 
@@ -47,12 +47,12 @@ unfoldable pub final : List ℕ → ℕ → ℕ → List ℕ → Walked
 final r k n path =
     if leb (k + length r) (length path) then tryAt r (length path - length r) n (drop (length path - length r) path) else failed n
 
--- "The first run is tried at 0 only"; an end-marked last run "that is also the first" fails at no cost if its start is "not 0"
+-- true where the run is the end-marked last one. "The first run is tried at 0 only"; an end-marked last run "that is also the first" fails at no cost if its start is "not 0"
 unfoldable pub first : Bool → List ℕ → List ℕ → Walked
 first true r path = if eqb (length r) (length path) then tryAt r 0 0 path else failed 0
 first false r path = tryAt r 0 0 path
 
--- a later run, where the walk stands at w. "After the first failed run the rule is done"
+-- likewise for a later run, where the walk has come to w. "After the first failed run the rule is done"
 unfoldable pub next : Bool → List ℕ → List ℕ → Walked → Walked
 next true r path w = if w .stood then final r (w .past) (w .count) path else w
 next false r path w = if w .stood then seek r (w .past) (w .count) (drop (w .past) path) else w

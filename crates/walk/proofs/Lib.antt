@@ -1,4 +1,5 @@
 mod Cuts
+mod Literal
 mod Marked
 mod Refusing
 pub mod Scratch

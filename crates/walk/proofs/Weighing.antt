@@ -1,18 +1,36 @@
--- A walk with the pattern's weight, found or not. Assumes nothing.
+-- A walk with the pattern's weight, found or not, and the scratch after it. Assumes nothing.
 use Prim.Native.Nat.{ℕ}
 use mathlib.Core.Path.{_≡_}
 use mathlib.Core.Bool.{true, false}
 use mathlib.Core.List.{List}
+use lib.ListN.{length}
+use Rattle.lists.specs.Lists.{all}
 use Rattle.protocol.specs.declared.Walked.{Walked}
 use Rattle.protocol.specs.Pattern.{shapeOf, weight}
-use Rattle.protocol.specs.Walk.{walk}
-use Rattle.walk.specs.Weights.{weighed}
+use Rattle.protocol.specs.Walk.{first, walk}
+use Rattle.walk.specs.Texts.{walkScratch, literal, weighScratch}
+use Rattle.walk.specs.Weights.{weighedWalk, weighed}
+use Rattle.walk.proofs.Literal.{literal-walk, literal-weight}
 
-module _ (pattern path : List ℕ) (w : Walked) (h : w ≡ walk (shapeOf pattern) path) where
-  pub weighed-not-found : w .stood ≡ false → record { found = false; weight = 0; compared = w .count } ≡ weighed pattern path
-  unfolding weighed
-  weighed-not-found e = rw (← h, e)
+module _ (pattern path : List ℕ) where
+  module _ (w : Walked) (h : w ≡ walk (shapeOf pattern) path) where
+    pub weighed-not-found : w .stood ≡ false → weighedWalk w 0 ≡ weighed pattern path
+    unfolding weighed
+    weighed-not-found e = rw (← h, e)
 
-  pub weighed-found : (n : ℕ) → w .stood ≡ true → n ≡ weight (shapeOf pattern) → record { found = true; weight = n; compared = w .count } ≡ weighed pattern path
+    pub weighed-found : (n : ℕ) → n ≡ weight (shapeOf pattern) → weighedWalk w n ≡ weighed pattern path
+    unfolding weighed
+    weighed-found n q = rw (h, q)
+
+  pub weighed-literal : (w : Walked) → all literal pattern ≡ true → w ≡ first false pattern path → weighedWalk w (length pattern) ≡ weighed pattern path
   unfolding weighed
-  weighed-found n e q = rw (← h, e, q)
+  weighed-literal w h e = rw (e, literal-walk pattern h path, literal-weight pattern h)
+
+  module _ (scratch : List ℕ) where
+    pub scratch-literal : all literal pattern ≡ true → scratch ≡ weighScratch pattern path scratch
+    unfolding weighScratch
+    scratch-literal h = rw h
+
+    pub scratch-walked : all literal pattern ≡ false → walkScratch pattern path scratch ≡ weighScratch pattern path scratch
+    unfolding weighScratch
+    scratch-walked h = rw h

@@ -3,7 +3,9 @@ use Prim.Native.Nat.{ℕ}
 use mathlib.Core.Bool.{Bool}
 use mathlib.Core.List.{List, [], _∷_, map}
 use Rattle.lists.specs.Choice.{if_then_else_}
+use Rattle.lists.specs.Lists.{all}
 use Rattle.protocol.specs.declared.Walked.{Walked}
+use Rattle.protocol.specs.Octets.{within}
 use Rattle.protocol.specs.Text.{ends}
 use Rattle.protocol.specs.Pattern.{rawText, firstRun, laterRuns}
 use Rattle.protocol.specs.Walk.{first, next, isLast, walkRuns}
@@ -33,3 +35,11 @@ scratchText endMark text path scratch =
 -- the scratch after the walk of a raw pattern
 unfoldable pub walkScratch : List ℕ → List ℕ → List ℕ → List ℕ
 walkScratch pattern path scratch = scratchText (ends "$" pattern) (rawText pattern) path scratch
+
+-- an octet of a pattern that is no star and no end mark, and that normalising leaves as it is, whatever stands beside it
+abbrev pub literal : ℕ → Bool
+literal x = within 0x2B 0x7E x
+
+-- the scratch after a raw pattern is weighed: untouched where its octets are literal
+unfoldable pub weighScratch : List ℕ → List ℕ → List ℕ → List ℕ
+weighScratch pattern path scratch = if all literal pattern then scratch else walkScratch pattern path scratch

@@ -6,11 +6,12 @@ ghost use mathlib.Core.Bool.{true, _&&_};
 ghost use Prim.Native.Nat.{_≤_, _<_, _^_};
 ghost use lib.ListN.{length};
 ghost use lib.Dec.{eqb};
+ghost use Rattle.lists.specs.Lists.{all};
 ghost use Rattle.protocol.specs.Pattern.{shapeOf, weight};
 ghost use Rattle.protocol.specs.Walk.{first, next, walk};
 ghost use Rattle.normal.specs.Runs.{normalRun, runScratch};
-ghost use Rattle.walk.specs.Texts.{walkText, scratchText, walkScratch};
-ghost use Rattle.walk.specs.Weights.{CountFits, weighed};
+ghost use Rattle.walk.specs.Texts.{walkText, scratchText, walkScratch, literal, weighScratch};
+ghost use Rattle.walk.specs.Weights.{CountFits, weighedWalk, weighed};
 use normal::Written;
 use protocol::Walked;
 
@@ -93,17 +94,14 @@ pub fn walk_pattern(pattern: &[u8], path: &[u8], scratch: &mut [u8]) -> Walked
     walk_text(&pattern[..end], marked, path, scratch)
 }
 
-// A pattern's match, weight and count, out of one walk.
-pub fn weigh(pattern: &[u8], path: &[u8], scratch: &mut [u8]) -> Weighed
-    requires { ⌜ (length (now path) ≤ length (now scratch)) × (weight (shapeOf (now pattern)) < 2 ^ 64) × CountFits (now pattern) (now path) ⌝ }
-    ensures { λ r. ⌜ r ≡ weighed (now (pattern .entry)) (now (path .entry)) ⌝ }
-    ensures { λ _. ⌜ now (scratch .exit) ≡ walkScratch (now (pattern .entry)) (now (path .entry)) (now (scratch .entry)) ⌝ }
+// What a walk found, for a pattern of that weight.
+fn weighed_walk(w: Walked, weight: usize) -> Weighed
+    ensures { λ r. ⌜ r ≡ weighedWalk w weight ⌝ }
 {
-    let w = walk_pattern(pattern, path, scratch);
     if w.stood {
         return Weighed {
             found: true,
-            weight: normal::weight_of(pattern),
+            weight,
             compared: w.count,
         };
     }
@@ -112,4 +110,47 @@ pub fn weigh(pattern: &[u8], path: &[u8], scratch: &mut [u8]) -> Weighed
         weight: 0,
         compared: w.count,
     }
+}
+
+// A pattern without a star, an end mark, and an octet that normalising could change.
+fn is_literal(pattern: &[u8]) -> bool
+    ensures { λ r. ⌜ r ≡ all literal (now (pattern .entry)) ⌝ }
+{
+    let mut i = 0;
+    while i < pattern.len() {
+        let x = pattern[i];
+        if x < 0x2B {
+            return false;
+        }
+        if 0x7E < x {
+            return false;
+        }
+        i += 1;
+    }
+    true
+}
+
+// Such a pattern is one run as it stands, and weighs its octets.
+fn weigh_literal(pattern: &[u8], path: &[u8]) -> Weighed
+    requires { ⌜ all literal (now pattern) ≡ true ⌝ }
+    ensures { λ r. ⌜ r ≡ weighed (now (pattern .entry)) (now (path .entry)) ⌝ }
+{
+    let w = crate::runs::first_run(pattern, path, false);
+    weighed_walk(w, pattern.len())
+}
+
+// A pattern's match, weight and count, out of one walk.
+pub fn weigh(pattern: &[u8], path: &[u8], scratch: &mut [u8]) -> Weighed
+    requires { ⌜ (length (now path) ≤ length (now scratch)) × (weight (shapeOf (now pattern)) < 2 ^ 64) × CountFits (now pattern) (now path) ⌝ }
+    ensures { λ r. ⌜ r ≡ weighed (now (pattern .entry)) (now (path .entry)) ⌝ }
+    ensures { λ _. ⌜ now (scratch .exit) ≡ weighScratch (now (pattern .entry)) (now (path .entry)) (now (scratch .entry)) ⌝ }
+{
+    if is_literal(pattern) {
+        return weigh_literal(pattern, path);
+    }
+    let w = walk_pattern(pattern, path, scratch);
+    if w.stood {
+        return weighed_walk(w, normal::weight_of(pattern));
+    }
+    weighed_walk(w, 0)
 }

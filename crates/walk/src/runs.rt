@@ -4,28 +4,99 @@ ghost use mathlib.Core.Path.{_≡_};
 ghost use mathlib.Core.Bool.{true};
 ghost use Prim.Native.Nat.{_+_, _≤_, _<_, _^_};
 ghost use lib.ListN.{length, drop};
+ghost use lib.Dec.{eqb};
 ghost use Rattle.protocol.specs.Walk.{tried, failed, placed, seek, final, first, next};
+ghost use Rattle.walk.specs.Tries.{triedFirst};
 use protocol::Tried;
 use protocol::Walked;
 
-// The one function that compares a pattern's octets with the path's: it adds 1 for each pair.
-fn compare(run: &[u8], rest: &[u8], before: usize) -> Tried
+// The one function that compares a pattern's octets with the path's: it adds 1 for the pair.
+fn compare(a: u8, b: u8, before: usize) -> Tried
+    requires { ⌜ before + 1 < 2 ^ 64 ⌝ }
+    ensures { λ r. ⌜ r ≡ record { stood = eqb a b; count = before + 1 } ⌝ }
+{
+    Tried {
+        stood: a == b,
+        count: before + 1,
+    }
+}
+
+// Tries a run at a place: from the first pair to the first that differs.
+fn try_run(run: &[u8], rest: &[u8], before: usize) -> Tried
     requires { ⌜ (length (now run) ≤ length (now rest)) × (tried (now run) (now rest) before .count < 2 ^ 64) ⌝ }
     ensures { λ r. ⌜ r ≡ tried (now (run .entry)) (now (rest .entry)) before ⌝ }
 {
     let mut count = before;
     let mut i = 0;
     while i < run.len() {
-        count += 1;
-        if run[i] != rest[i] {
-            return Tried {
-                stood: false,
-                count,
-            };
+        let t = compare(run[i], rest[i], count);
+        if !t.stood {
+            return t;
         }
+        count = t.count;
         i += 1;
     }
     Tried { stood: true, count }
+}
+
+// As `try_first`, for four places.
+fn try_four(first: u8, four: &[u8], before: usize) -> Tried
+    requires { ⌜ (length (now four) ≡ 4) × (triedFirst first (now four) before .count < 2 ^ 64) ⌝ }
+    ensures { λ r. ⌜ r ≡ triedFirst first (now (four .entry)) before ⌝ }
+{
+    let t = compare(first, four[0], before);
+    if t.stood {
+        return t;
+    }
+    let u = compare(first, four[1], t.count);
+    if u.stood {
+        return u;
+    }
+    let v = compare(first, four[2], u.count);
+    if v.stood {
+        return v;
+    }
+    compare(first, four[3], v.count)
+}
+
+// As `try_first`, one place a turn: for the fewer than four that are left.
+fn try_each(first: u8, places: &[u8], before: usize) -> Tried
+    requires { ⌜ triedFirst first (now places) before .count < 2 ^ 64 ⌝ }
+    ensures { λ r. ⌜ r ≡ triedFirst first (now (places .entry)) before ⌝ }
+{
+    let mut count = before;
+    let mut i = 0;
+    while i < places.len() {
+        let t = compare(first, places[i], count);
+        if t.stood {
+            return t;
+        }
+        count = t.count;
+        i += 1;
+    }
+    Tried {
+        stood: false,
+        count,
+    }
+}
+
+// Compares a run's first octet with those of the places, up to the first that is equal: elsewhere a try fails at that one pair.
+// Four places a turn, since a turn costs more than a pair.
+fn try_first(first: u8, places: &[u8], before: usize) -> Tried
+    requires { ⌜ triedFirst first (now places) before .count < 2 ^ 64 ⌝ }
+    ensures { λ r. ⌜ r ≡ triedFirst first (now (places .entry)) before ⌝ }
+{
+    let mut count = before;
+    let mut i = 0;
+    while 4 <= places.len() - i {
+        let t = try_four(first, &places[i..i + 4], count);
+        if t.stood {
+            return t;
+        }
+        count = t.count;
+        i += 4;
+    }
+    try_each(first, &places[i..], count)
 }
 
 // No place for a run: it fails at no further cost.
@@ -54,17 +125,30 @@ fn place_run(size: usize, at: usize, t: Tried) -> Walked
     fail(t.count)
 }
 
-// Tries a run at `from`, then one further each time, until it stands or would pass the path's end.
+// Tries a run at `from`, then one further each time, until it stands or would pass the path's end. Most tries fail at the run's first octet.
 fn seek_run(run: &[u8], path: &[u8], from: usize, before: usize) -> Walked
     requires { ⌜ (from ≤ length (now path)) × (seek (now run) from before (drop from (now path)) .count < 2 ^ 64) ⌝ }
     ensures { λ r. ⌜ r ≡ seek (now (run .entry)) from before (drop from (now (path .entry))) ⌝ }
 {
+    if run.len() == 0 {
+        return Walked {
+            stood: true,
+            past: from,
+            count: before,
+        };
+    }
     let mut count = before;
     let mut at = from;
     while run.len() <= path.len() - at {
-        let t = compare(run, &path[at..], count);
+        let starts = path.len() - run.len() + 1;
+        let f = try_first(run[0], &path[at..starts], count);
+        if !f.stood {
+            return fail(f.count);
+        }
+        at += f.count - count;
+        let t = try_run(&run[1..], &path[at..], f.count);
         if t.stood {
-            let past = at + run.len();
+            let past = at + (run.len() - 1);
             return Walked {
                 stood: true,
                 past,
@@ -72,7 +156,6 @@ fn seek_run(run: &[u8], path: &[u8], from: usize, before: usize) -> Walked
             };
         }
         count = t.count;
-        at += 1;
     }
     fail(count)
 }
@@ -89,7 +172,7 @@ fn last_run(run: &[u8], path: &[u8], from: usize, before: usize) -> Walked
     if start < from {
         return fail(before);
     }
-    let t = compare(run, &path[start..], before);
+    let t = try_run(run, &path[start..], before);
     place_run(run.len(), start, t)
 }
 
@@ -105,7 +188,7 @@ pub fn first_run(run: &[u8], path: &[u8], last: bool) -> Walked
             return fail(0);
         }
     }
-    let t = compare(run, path, 0);
+    let t = try_run(run, path, 0);
     place_run(run.len(), 0, t)
 }
 

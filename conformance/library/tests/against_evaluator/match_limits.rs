@@ -205,7 +205,7 @@ fn pattern_and_path_in_the_same_memory() {
     }
 }
 
-/// The stack of a thread: the 12 KiB that the header names, and room for the
+/// The stack of a thread: the 16 KiB that the header names, and room for the
 /// thread and the test themselves. A call that needs far more ends the test
 /// program.
 const STACK: usize = 32 * 1_024;

@@ -1,11 +1,16 @@
 -- `choice::stand` meets its contract. Assumes nothing.
-use Rattle.choice.specs.Bests.{standing}
+use mathlib.Core.Path.{sym}
 use borrow.Author.Needs.{needs}
+use Rattle.choice.specs.Bests.{standing}
+use Rattle.choice.proofs.Leads.{standing-past}
 use Rattle.choice.proofs.stand.Statement.{statement}
 use Rattle.choice.proofs.stand.Tie as tie
 
 add-count : tie.Need-add-count
 add-count c = search needs
+
+returns : tie.Need-returns
+returns c = let a = c .before .before .before .before .before .args in sym (standing-past (a .side) (a .rule) (a .compared) (a .s) (c .if1 .taken))
 
 enum-told : tie.Need-enum-told
 enum-told c = search needs
@@ -13,21 +18,21 @@ enum-told c = search needs
 better-requires : tie.Need-better-requires
 better-requires c κs = search needs
 
+returns-2 : tie.Need-returns-2
+unfolding standing
+returns-2 c = rw (c .before .enum-told .given .1, c .better .ensures)
+
 enum-told-2 : tie.Need-enum-told-2
 enum-told-2 c = search needs
 
 better-requires-2 : tie.Need-better-requires-2
 better-requires-2 c κs = search needs
 
-returns : tie.Need-returns
+returns-3 : tie.Need-returns-3
 unfolding standing
-returns c = rw (c .before .enum-told .given .1, c .better .ensures)
-
-returns-2 : tie.Need-returns-2
-unfolding standing
-returns-2 c = rw (c .before .enum-told2 .given .1, c .better2 .ensures)
+returns-3 c = rw (c .before .enum-told2 .given .1, c .better2 .ensures)
 
 pub stand-spec : {M : Type 1} → statement M
 stand-spec =
     tie.close
-    (tie.spec add-count enum-told better-requires enum-told-2 better-requires-2 returns returns-2)
+    (tie.spec add-count returns enum-told better-requires enum-told-2 better-requires-2 returns-2 returns-3)

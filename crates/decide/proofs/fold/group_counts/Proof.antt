@@ -1,6 +1,7 @@
 -- `decide::fold::group_counts` meets its contract. Assumes nothing.
 use mathlib.Core.Path.{sym, _∙_}
 use Rattle.decide.proofs.Stepping.{counts-on, counts-named}
+use Rattle.protocol.specs.Lines.{lineText}
 use borrow.Author.Needs.{needs}
 use Rattle.decide.proofs.fold.group_counts.Statement.{statement}
 use Rattle.decide.proofs.fold.group_counts.Tie as tie
@@ -9,7 +10,7 @@ joins-counted-requires : tie.Need-joins-counted-requires
 joins-counted-requires c κs = search needs
 
 returns : tie.Need-returns
-returns c = let a = c .before .before .before .before .args in counts-on (a .who .now) (a .line .now) (a .agent) (a .t .counts) (a .t .joins) (sym (c .before .joins-counted .ensures) ∙ c .if1 .taken)
+returns c = let a = c .before .before .before .before .args in counts-on (a .who .now) (lineText (a .line .now)) (a .agent) (a .t .counts) (a .t .joins) (sym (c .before .joins-counted .ensures) ∙ c .if1 .taken)
 
 value-of-requires : tie.Need-value-of-requires
 value-of-requires c κs = search needs
@@ -21,7 +22,7 @@ returns-2 : tie.Need-returns-2
 returns-2 c =
     let a = c .before .before .before .before .before .before .args in
     c .names .ensures
-    ∙ rw (c .before .value-of .ensures) (counts-named (a .who .now) (a .line .now) (a .agent) (a .t .counts) (a .t .joins) (sym (c .before .before .before .joins-counted .ensures) ∙ c .before .before .if1 .left))
+    ∙ rw (c .before .value-of .ensures) (counts-named (a .who .now) (lineText (a .line .now)) (a .agent) (a .t .counts) (a .t .joins) (sym (c .before .before .before .joins-counted .ensures) ∙ c .before .before .if1 .left))
 
 pub group-counts-spec : {M : Type 1} → statement M
 group-counts-spec =

@@ -1,22 +1,21 @@
 -- `lines::text::past_blocks` meets its contract: what is left to search gives the whole search's outcome. Assumes nothing.
 use Prim.Native.Nat.{_+_, _-_}
-use mathlib.Core.Path.{_≡_, refl, sym, _∙_}
-use mathlib.Core.Bool.{false}
+use mathlib.Core.Path.{_≡_, refl}
 use native.Mathlib.Omega.{arith}
-use lib.ListN.{length, take, drop}
-use Rattle.lists.specs.Lists.{any, upTo}
-use Rattle.lists.proofs.Scans.{scan-past}
-use Rattle.protocol.specs.Octets.{lineEnd}
-use Rattle.lines.specs.Parts.{low}
-use Rattle.lines.proofs.Endings.{no-low}
+use lib.ListN.{length, take, drop, length-take, length-drop}
+use Rattle.lists.specs.Lists.{upTo}
+use Rattle.lists.proofs.Scans.{upTo-fits}
+use Rattle.lines.specs.Parts.{among}
+use Rattle.lines.proofs.Seeks.{upTo-part, scan-from}
 use Rattle.lines.proofs.text.past_blocks.Statement.{statement}
 use Rattle.lines.proofs.text.past_blocks.Tie as tie
 
 abbrev Inv-loop : tie.InvT-loop
-Inv-loop s from last i₀ i = i + length (upTo lineEnd (drop i s)) ≡ from + length (upTo lineEnd (drop from s))
+Inv-loop s from low high inside last i₀ i =
+    i + length (upTo (among low high inside) (drop i s)) ≡ from + length (upTo (among low high inside) (drop from s))
 
 abbrev μ-loop : tie.MeasureT-loop
-μ-loop s from last i₀ i = length s - i
+μ-loop s from low high inside last i₀ i = length s - i
 
 returns : tie.Need-returns Inv-loop μ-loop
 returns c = refl
@@ -30,20 +29,30 @@ loop-holds c = refl
 add-end : tie.Need-add-end Inv-loop μ-loop
 add-end c = omega arith
 
-sub-holds-low : tie.Need-sub-holds-low Inv-loop μ-loop
-sub-holds-low c = omega arith
+sub-front-of-block : tie.Need-sub-front-of-block Inv-loop μ-loop
+sub-front-of-block c = omega arith
 
-part-holds-low-start : tie.Need-part-holds-low-start Inv-loop μ-loop
-part-holds-low-start c = omega arith
+part-front-of-block-start : tie.Need-part-front-of-block-start Inv-loop μ-loop
+part-front-of-block-start c = omega arith
 
-part-holds-low-end : tie.Need-part-holds-low-end Inv-loop μ-loop
-part-holds-low-end c = omega arith
+part-front-of-block-end : tie.Need-part-front-of-block-end Inv-loop μ-loop
+part-front-of-block-end c = omega arith
 
-holds-low-requires : tie.Need-holds-low-requires Inv-loop μ-loop
-holds-low-requires c κs = tt
+front-of-block-requires : tie.Need-front-of-block-requires Inv-loop μ-loop
+front-of-block-requires c κs = simp (length-take, length-drop) (omega arith)
+
+add-result : tie.Need-add-result Inv-loop μ-loop
+add-result c = omega arith
 
 returns-2 : tie.Need-returns-2 Inv-loop μ-loop
-returns-2 c = c .before .before .before .before .loop .inv
+returns-2 c =
+    let l = c .before .before .before .before in
+    let a = l .before .before .before .args in
+    let f = among (a .low) (a .high) (a .inside) in
+    let i = l .loop .i in
+    let front = c .before .front-of-block in
+    let part = upTo-part f (i + 64 - i) (drop i (a .s .now)) in
+    omega (arith, l .loop .inv, scan-from f (a .s .now) i _ (i + front .result) part (omega (arith, front .ensures)))
 
 loop-less : tie.Need-loop-less Inv-loop μ-loop
 loop-less c = omega arith
@@ -51,10 +60,17 @@ loop-less c = omega arith
 loop-again : tie.Need-loop-again Inv-loop μ-loop
 loop-again c =
     let l = c .before .before .before .before in
-    let s = l .before .before .before .args .s .now in
-    let size : l .loop .i + 16 - l .loop .i ≡ 16 = omega arith in
-    let none : any low (take 16 (drop (l .loop .i) s)) ≡ false = rw size at (sym (c .before .holds-low .ensures) ∙ c .if2 .left) in
-    omega (arith, l .loop .inv, scan-past lineEnd s (l .loop .i) 16 (omega arith) (no-low (take 16 (drop (l .loop .i) s)) none))
+    let a = l .before .before .before .args in
+    let f = among (a .low) (a .high) (a .inside) in
+    let i = l .loop .i in
+    let rest = drop i (a .s .now) in
+    let part = upTo-part f (i + 64 - i) rest in
+    let fits = upTo-fits f (take (i + 64 - i) rest) in
+    omega (
+      arith,
+      l .loop .inv,
+      scan-from f (a .s .now) i _ (i + 64) part (omega (arith, c .before .front-of-block .ensures, fits, length-take (i + 64 - i) rest)),
+    )
 
 returns-3 : tie.Need-returns-3 Inv-loop μ-loop
 returns-3 c = c .before .loop .inv
@@ -69,10 +85,11 @@ past-blocks-spec =
     sub-last
     loop-holds
     add-end
-    sub-holds-low
-    part-holds-low-start
-    part-holds-low-end
-    holds-low-requires
+    sub-front-of-block
+    part-front-of-block-start
+    part-front-of-block-end
+    front-of-block-requires
+    add-result
     returns-2
     loop-less
     loop-again

@@ -37,8 +37,8 @@ whole c =
     first-in (a .run .now) (a .path .now) (a .last) (omega arith)
     (⊎-elim (λ w. λ _. w .1 .left) (λ w. λ e. absurd (true≢false (sym e ∙ w .left))) (c .if2 .came))
 
-compare-requires : tie.Need-compare-requires
-compare-requires c κs =
+try-run-requires : tie.Need-try-run-requires
+try-run-requires c κs =
     let a = c .before .before .before .before .args in (omega arith, omega (arith, tried-most (a .run .now) (a .path .now) 0))
 
 place-run-requires : tie.Need-place-run-requires
@@ -47,7 +47,7 @@ place-run-requires c κs = search needs
 returns-3 : tie.Need-returns-3
 returns-3 c =
     let a = c .before .before .before .before .before .before .args in
-    c .place-run .ensures ∙ ap (placed (length (a .run .now)) 0) (c .before .compare .ensures) ∙ sym (whole (c .before .before))
+    c .place-run .ensures ∙ ap (placed (length (a .run .now)) 0) (c .before .try-run .ensures) ∙ sym (whole (c .before .before))
 
 pub first-run-spec : {M : Type 1} → statement M
 first-run-spec =
@@ -57,6 +57,6 @@ first-run-spec =
     returns
     fail-requires-2
     returns-2
-    compare-requires
+    try-run-requires
     place-run-requires
     returns-3)

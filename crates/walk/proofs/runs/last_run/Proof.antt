@@ -32,17 +32,17 @@ returns-2 c =
     let a = c .before .before .before .before .before .args in
     c .fail2 .ensures ∙ sym (final-out (a .run .now) (a .from) (a .before) (a .path .now) (omega arith))
 
-sub-compare : tie.Need-sub-compare
-sub-compare c = search needs
+sub-try-run : tie.Need-sub-try-run
+sub-try-run c = search needs
 
-part-compare-start : tie.Need-part-compare-start
-part-compare-start c = search needs
+part-try-run-start : tie.Need-part-try-run-start
+part-try-run-start c = search needs
 
-part-compare-end : tie.Need-part-compare-end
-part-compare-end c = search needs
+part-try-run-end : tie.Need-part-try-run-end
+part-try-run-end c = search needs
 
-compare-requires : tie.Need-compare-requires
-compare-requires c κs =
+try-run-requires : tie.Need-try-run-requires
+try-run-requires c κs =
     let a = c .before .before .before .before .before .args in
     let d = length (a .path .now) - length (a .run .now) in
     let p = ap (λ (x : Walked). x .count) (final-in (a .run .now) (a .from) (a .before) (a .path .now) (omega arith)) in
@@ -57,7 +57,7 @@ returns-3 c =
     let a = c .before .before .before .before .before .before .before .args in
     let d = length (a .path .now) - length (a .run .now) in
     c .place-run .ensures
-    ∙ ap (placed (length (a .run .now)) d) (c .before .compare .ensures ∙ ap (λ (t : List ℕ). tried (a .run .now) t (a .before)) (rest-of d (a .path .now)))
+    ∙ ap (placed (length (a .run .now)) d) (c .before .try-run .ensures ∙ ap (λ (t : List ℕ). tried (a .run .now) t (a .before)) (rest-of d (a .path .now)))
     ∙ sym (final-in (a .run .now) (a .from) (a .before) (a .path .now) (omega arith))
 
 pub last-run-spec : {M : Type 1} → statement M
@@ -69,9 +69,9 @@ last-run-spec =
     sub-start
     fail-requires-2
     returns-2
-    sub-compare
-    part-compare-start
-    part-compare-end
-    compare-requires
+    sub-try-run
+    part-try-run-start
+    part-try-run-end
+    try-run-requires
     place-run-requires
     returns-3)

@@ -1,0 +1,36 @@
+//! The plain evaluator against the independent one, all seven numbers.
+//!
+//! The library's tests of deciding are taken as they stand and asked of the
+//! plain evaluator: what they call `library` is this crate.
+
+extern crate self as library;
+
+mod ask;
+mod cases;
+#[path = "../../../library/tests/against_evaluator/decide_files.rs"]
+mod decide_files;
+#[path = "../../../library/tests/against_evaluator/decide_groups.rs"]
+mod decide_groups;
+#[path = "../../../library/tests/against_evaluator/decide_limits.rs"]
+mod decide_limits;
+#[path = "../../../library/tests/against_evaluator/decide_memory.rs"]
+mod decide_memory;
+#[path = "../../../library/tests/against_evaluator/decide_octets.rs"]
+mod decide_octets;
+#[path = "../../../library/tests/against_evaluator/decide_refusals.rs"]
+mod decide_refusals;
+#[path = "../../../library/tests/against_evaluator/deciding.rs"]
+mod deciding;
+mod numbers;
+#[path = "../../../library/tests/against_evaluator/path_refusals.rs"]
+mod path_refusals;
+#[path = "../../../library/tests/against_evaluator/small_files.rs"]
+mod small_files;
+#[allow(dead_code)]
+#[path = "../../../library/tests/against_evaluator/texts.rs"]
+mod texts;
+
+pub use numbers::{
+    decide_compared, decide_disallow, decide_length, decide_line, decide_place, decide_refusal,
+    decide_unread,
+};

@@ -1,0 +1,68 @@
+-- The kind of a line without a field that is known, by its first colon or stop. Assumes nothing.
+use Prim.Native.Nat.{ℕ, _-_}
+use mathlib.Core.Path.{_≡_, refl, sym, ap, _∙_}
+use mathlib.Core.Bool.{true, false}
+use mathlib.Core.List.{List, [], _∷_}
+use lib.ListN.{length, take, drop}
+use Rattle.lists.specs.Choice.{if_then_else_}
+use Rattle.lists.specs.Lists.{empty, any, upTo, from}
+use Rattle.lists.proofs.Bools.{split}
+use Rattle.lists.proofs.Scans.{drop-upTo}
+use Rattle.lists.proofs.Tests.{empty-none, empty-some}
+use Rattle.protocol.specs.declared.Kind.{Kind}
+use Rattle.protocol.specs.Octets.{is}
+use Rattle.protocol.specs.Text.{begins, solid, lead, trimEnd, trim}
+use Rattle.protocol.specs.Lines.{lineText}
+use Rattle.protocol.specs.Kinds.{kindOf}
+use Rattle.kinds.specs.declared.fields.Field.{Field}
+use Rattle.kinds.specs.Fields.{fieldOf, stop, mark}
+use Rattle.lists.proofs.Cuts.{upTo-none, upTo-either, upTo-past, any-past}
+use Rattle.kinds.proofs.Ends.{end-empty}
+use Rattle.kinds.proofs.Reading.{kind-idle}
+use Rattle.kinds.proofs.Heads.{past-start, kind-other}
+use Rattle.kinds.proofs.Sorts.{stop-solid, colon-solid, colon-on}
+
+-- a colon is examined exactly where the first colon or stop is one
+colon-first : (t : List ℕ) → any (is ":") (upTo stop t) ≡ begins ":" (from mark t)
+unfolding any upTo from begins mark
+colon-first [] = refl
+colon-first (x ∷ t) =
+    split (is ":" x) (λ e. rw (colon-on x e, e, e))
+    (λ e. split (stop x) (λ s. rw (e, s, e)) (λ s. rw (s, e) (colon-first t)))
+
+module _ (r : List ℕ) (start n : ℕ) (s : start ≡ lead r) (k : n ≡ length (upTo mark (take (length r - start) (drop start r)))) where
+  abbrev pub rest : List ℕ
+  rest = take (length r - start) (drop start r)
+
+  mark-told : n ≡ length (upTo mark (from solid r))
+  mark-told = k ∙ ap (λ (l : List ℕ). length (upTo mark l)) (past-start r start s)
+
+  colon-told : any (is ":") (upTo stop r) ≡ begins ":" (drop n rest)
+  colon-told =
+      let t : List ℕ = from solid r in
+      sym (ap (any (is ":")) (upTo-past stop solid stop-solid r) ∙ any-past (is ":") solid colon-solid (upTo stop r))
+      ∙ colon-first t
+      ∙ ap (begins ":") (sym (ap (λ (i : ℕ). drop i t) mark-told ∙ drop-upTo mark t) ∙ ap (drop n) (sym (past-start r start s)))
+
+  pub idle-other : begins ":" (drop n rest) ≡ true → fieldOf (kindOf (lineText r)) ≡ Field.Other → Kind.Other ≡ kindOf (lineText r)
+  idle-other e o = kind-other r (colon-told ∙ e) o
+
+  module _ (e : begins ":" (drop n rest) ≡ false) where
+    left-told : empty (trim (upTo stop r)) ≡ empty (upTo mark (from solid r))
+    unfolding trim mark
+    left-told =
+        let t : List ℕ = from solid r in
+        let none : any (is ":") (upTo stop t) ≡ false
+        = ap (any (is ":")) (upTo-past stop solid stop-solid r) ∙ any-past (is ":") solid colon-solid (upTo stop r) ∙ colon-told ∙ e in
+        ap (λ (l : List ℕ). empty (trimEnd l)) (sym (upTo-past stop solid stop-solid r))
+        ∙ end-empty stop r
+        ∙ ap empty (sym (upTo-none (is ":") (upTo stop t) none) ∙ upTo-either (is ":") stop t)
+
+    idle-told : kindOf (lineText r) ≡ (if empty (upTo mark (from solid r)) then Kind.Blank else Kind.Noise)
+    idle-told = kind-idle r (colon-told ∙ e) ∙ rw left-told
+
+    pub idle-blank : n ≡ 0 → Kind.Blank ≡ kindOf (lineText r)
+    idle-blank z = sym (idle-told ∙ rw (empty-none (upTo mark (from solid r)) (sym mark-told ∙ z)))
+
+    pub idle-noise : (n ≡ 0 → ⊥) → Kind.Noise ≡ kindOf (lineText r)
+    idle-noise z = sym (idle-told ∙ rw (empty-some (upTo mark (from solid r)) (λ d. z (mark-told ∙ d))))

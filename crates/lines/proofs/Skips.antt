@@ -1,0 +1,102 @@
+-- Quiet octets and the line endings among them: octet by octet, and from one block to the next. Assumes nothing.
+use Prim.Native.Nat.{ℕ, zero, suc, _+_, _-_, _≤_, _<_}
+use mathlib.Core.Path.{_≡_, refl, sym, ap, _∙_}
+use mathlib.Core.Bool.{Bool, true, false, _&&_, _||_, not, and-assoc}
+use mathlib.Core.List.{List, [], _∷_}
+use native.Mathlib.Omega.{arith}
+use native.Mathlib.Numerals.{add-one}
+use lib.Bits.{bitOr}
+use lib.Dec.{eqb}
+use lib.ListN.{length, take, drop, getD, length-take}
+use lib.Seq.{drop-nil, drop-drop}
+use Rattle.lists.specs.Choice.{oneIf}
+use Rattle.lists.specs.Lists.{numbersFrom}
+use Rattle.lists.proofs.Bools.{one-at-most}
+use Rattle.lists.proofs.Scans.{drop-one}
+use Rattle.octets.proofs.Every.{every-octet}
+use Rattle.protocol.specs.Octets.{is, upper, blank, lineEnd, lowerCase}
+use Rattle.protocol.specs.Lines.{closes}
+use Rattle.lines.specs.Skips.{entryOctet, quiet, endings}
+
+-- without a branch: a letter with the bit 32 set is the lower-case one
+abbrev entryBits : Bool → ℕ → Bool
+entryBits rules x =
+    eqb (bitOr x 32) 117 || eqb x 32 || eqb x 9 || (rules && (eqb (bitOr x 32) 97 || eqb (bitOr x 32) 100))
+
+pub entry-bits : (rules : Bool) (x : ℕ) → x < 256 → entryBits rules x ≡ entryOctet rules x
+unfolding numbersFrom entryOctet blank lowerCase upper
+entry-bits true = every-octet (entryBits true) (entryOctet true) refl
+entry-bits false = every-octet (entryBits false) (entryOctet false) refl
+
+-- behind one octet nothing begins, and it closes no line
+pub quiet-one : (rules : Bool) (l : List ℕ) → length l ≤ 1 → quiet rules l ≡ true
+unfolding quiet
+quiet-one rules [] h = refl
+quiet-one rules (c ∷ []) h = refl
+quiet-one rules (c ∷ d ∷ l) h = absurd (omega arith)
+
+pub endings-one : (l : List ℕ) → length l ≤ 1 → endings l ≡ 0
+unfolding endings
+endings-one [] h = refl
+endings-one (c ∷ []) h = refl
+endings-one (c ∷ d ∷ l) h = absurd (omega arith)
+
+module _ (l : List ℕ) (i : ℕ) (h : i + 1 < length l) where
+  pub quiet-stop : (rules : Bool) → (lineEnd (getD l i 0) && entryOctet rules (getD l (i + 1) 0)) ≡ true → quiet rules (drop i l) ≡ false
+  unfolding quiet
+  quiet-stop rules e = rw (drop-one l i 0 (omega arith), drop-one l (i + 1) 0 h, e)
+
+  pub quiet-on : (rules : Bool) → (lineEnd (getD l i 0) && entryOctet rules (getD l (i + 1) 0)) ≡ false
+      → quiet rules (drop i l) ≡ quiet rules (drop (i + 1) l)
+  unfolding quiet
+  quiet-on rules e = rw (drop-one l i 0 (omega arith), drop-one l (i + 1) 0 h, e)
+
+  pub endings-next : endings (drop i l) ≡ oneIf (closes (getD l i 0) (is "\n" (getD l (i + 1) 0))) + endings (drop (i + 1) l)
+  unfolding endings
+  endings-next = rw (drop-one l i 0 (omega arith), drop-one l (i + 1) 0 h)
+
+-- two parts that share an octet
+quiet-seam : (rules : Bool) (l : List ℕ) (n m : ℕ) → quiet rules (take (suc (n + m)) l) ≡ (quiet rules (take (suc n) l) && quiet rules (take (suc m) (drop n l)))
+unfolding quiet
+quiet-seam rules [] zero m = refl
+quiet-seam rules [] (suc n) m = refl
+quiet-seam rules (c ∷ l) zero m = let e : 0 + m ≡ m = omega arith in rw e
+quiet-seam rules (c ∷ []) (suc n) m = let e : suc n + m ≡ suc (n + m) = omega arith in rw (e, drop-nil {A = ℕ} n)
+quiet-seam rules (c ∷ d ∷ l) (suc n) m =
+    let e : suc n + m ≡ suc (n + m) = omega arith in
+    rw e
+    (ap (λ (b : Bool). not (lineEnd c && entryOctet rules d) && b) (quiet-seam rules (d ∷ l) n m)
+    ∙ sym (and-assoc (not (lineEnd c && entryOctet rules d)) (quiet rules (take (suc n) (d ∷ l))) (quiet rules (take (suc m) (drop n (d ∷ l))))))
+
+endings-seam : (l : List ℕ) (n m : ℕ) → endings (take (suc (n + m)) l) ≡ endings (take (suc n) l) + endings (take (suc m) (drop n l))
+unfolding endings
+endings-seam [] zero m = refl
+endings-seam [] (suc n) m = refl
+endings-seam (c ∷ l) zero m = let e : 0 + m ≡ m = omega arith in rw e (omega arith)
+endings-seam (c ∷ []) (suc n) m = let e : suc n + m ≡ suc (n + m) = omega arith in rw (e, drop-nil {A = ℕ} n)
+endings-seam (c ∷ d ∷ l) (suc n) m = let e : suc n + m ≡ suc (n + m) = omega arith in rw e (omega (arith, endings-seam (d ∷ l) n m))
+
+-- m octets more, where those from `from` to i are passed
+module _ (l : List ℕ) (from i m : ℕ) (h : from ≤ i) where
+  more : i + m - from + 1 ≡ suc (i - from + m)
+  more = omega arith
+
+  there : drop (i - from) (drop from l) ≡ drop i l
+  there = let e : from + (i - from) ≡ i = omega arith in drop-drop (i - from) from l ∙ rw e
+
+  pub quiet-more : (rules : Bool)
+      → quiet rules (take (i + m - from + 1) (drop from l)) ≡ (quiet rules (take (i - from + 1) (drop from l)) && quiet rules (take (suc m) (drop i l)))
+  quiet-more rules = rw (more, add-one, ← there) (quiet-seam rules (drop from l) (i - from) m)
+
+  pub endings-more : endings (take (i + m - from + 1) (drop from l)) ≡ endings (take (i - from + 1) (drop from l)) + endings (take (suc m) (drop i l))
+  endings-more = rw (more, add-one, ← there) (endings-seam (drop from l) (i - from) m)
+
+-- each octet but the last closes one line at most
+endings-few : (l : List ℕ) → endings l ≤ length l - 1
+unfolding endings
+endings-few [] = omega arith
+endings-few (c ∷ []) = omega arith
+endings-few (c ∷ d ∷ l) = omega (arith, endings-few (d ∷ l), one-at-most (closes c (is "\n" d)))
+
+pub endings-fit : (n : ℕ) (l : List ℕ) → endings (take (n + 1) l) ≤ n
+endings-fit n l = omega (arith, endings-few (take (n + 1) l), length-take (n + 1) l)

@@ -1,0 +1,79 @@
+// Passing over octets in which no agent or rule line begins.
+
+ghost use mathlib.Core.Path.{_≡_};
+ghost use mathlib.Core.Bool.{true};
+ghost use Prim.Native.Nat.{_+_, _≤_};
+ghost use lib.ListN.{length, take, drop};
+ghost use Rattle.lines.specs.Skips.{entryOctet, quiet, endings};
+
+// What was passed over: so many octets, which close so many lines.
+pub struct Passed {
+    pub octets: usize,
+    pub lines: usize,
+}
+
+// An agent line may begin with the octet; with rules, an agent or a rule line. No branch, so that the compiler can look at many octets at a time.
+fn may_begin(x: u8, rules: bool) -> bool
+    ensures { λ r. ⌜ r ≡ entryOctet rules x ⌝ }
+{
+    let c = x | 32;
+    ((c == b'u') | (x == b' ') | (x == b'\t')) | (rules & ((c == b'a') | (c == b'd')))
+}
+
+// No such line begins behind any of the first 64 octets.
+fn is_quiet(b: &[u8], rules: bool) -> bool
+    requires { ⌜ length (now b) ≡ 65 ⌝ }
+    ensures { λ r. ⌜ r ≡ quiet rules (now (b .entry)) ⌝ }
+{
+    let mut found = 0u8;
+    let mut i = 0;
+    while i < 64 {
+        if octets::is_line_end(b[i]) & may_begin(b[i + 1], rules) {
+            found += 1;
+        }
+        i += 1;
+    }
+    found == 0
+}
+
+// The line endings that the first 64 octets close.
+fn endings(b: &[u8]) -> usize
+    requires { ⌜ length (now b) ≡ 65 ⌝ }
+    ensures { λ r. ⌜ r ≡ endings (now (b .entry)) ⌝ }
+{
+    let mut n = 0u8;
+    let mut i = 0;
+    while i < 64 {
+        if (b[i] == b'\n') | ((b[i] == b'\r') & (b[i + 1] != b'\n')) {
+            n += 1;
+        }
+        i += 1;
+    }
+    n as usize
+}
+
+// Passes over whole blocks of 64 octets, as long as no such line begins behind one of these.
+pub fn pass(s: &[u8], from: usize, rules: bool) -> Passed
+    requires { ⌜ from ≤ length (now s) ⌝ }
+    ensures { λ r. ⌜ (from + r .octets ≤ length (now (s .entry))) × (quiet rules (take (r .octets + 1) (drop from (now (s .entry)))) ≡ true) × (r .lines ≡ endings (take (r .octets + 1) (drop from (now (s .entry))))) ⌝ }
+{
+    let mut i = from;
+    let mut lines = 0;
+    if s.len() < 65 {
+        return Passed { octets: 0, lines };
+    }
+    let last = s.len() - 65;
+    while i <= last {
+        let end = i + 65;
+        let b = &s[i..end];
+        if !is_quiet(b, rules) {
+            break;
+        }
+        lines += endings(b);
+        i += 64;
+    }
+    Passed {
+        octets: i - from,
+        lines,
+    }
+}
