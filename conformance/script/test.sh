@@ -327,7 +327,7 @@ check 'the first run builds, and still reads its own input' gave 1 "$example"
 rm "$program"
 run builds "$copy" drydockbot /sailings/draft/9 "$room/example" <"$room/closed"
 check 'the first run builds, and leaves standard input alone' gave 1 "$example"
-check 'it says so first' [ "$(head -n 1 "$room/err")" = 'robots-decide: proving and building the program, which takes about two minutes the first time' ]
+check 'it says so first' [ "$(head -n 1 "$room/err")" = 'robots-decide: proving and building the program, which takes about three minutes the first time' ]
 check 'rt is asked for the program, at the root' [ "$(tail -n 1 "$room/err")" = "$(cd "$repository" && pwd -P): rt check robots_decide: 0 octets" ]
 
 plant "$room/tools/rt" 'exit 1'
