@@ -12,7 +12,7 @@ pub const SORTS: [(&str, usize); 8] = [
     ("row", 56),
     ("rowIn", 5),
     ("sizes", 4),
-    ("run", 8),
+    ("run", 6),
     ("located", 5),
     ("lineRow", 43),
     ("matchRow", 15),

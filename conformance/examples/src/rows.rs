@@ -111,9 +111,8 @@ impl<'a> Scanner<'a> {
         self.text().into_iter().map(line_feed).collect()
     }
 
-    /// Octets: `[]`, `mark`, `octets "…"`, `lines "…"`, `many 9` (so many of
-    /// "x"), or some of these and lists of numerals in parentheses, joined by
-    /// `++`.
+    /// Octets: `[]`, `mark`, `octets "…"`, `lines "…"`, or some of these and
+    /// lists of numerals in parentheses, joined by `++`.
     pub fn octets(&mut self) -> Vec<u8> {
         if self.skip("(") {
             let octets = self.joined();
@@ -125,7 +124,6 @@ impl<'a> Scanner<'a> {
             "mark" => vec![0xEF, 0xBB, 0xBF],
             "octets" => self.text(),
             "lines" => self.text_of_lines(),
-            "many" => vec![b'x'; self.number()],
             other => panic!("octets expected, not {other}"),
         }
     }

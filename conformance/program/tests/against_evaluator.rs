@@ -206,7 +206,7 @@ fn every_row_of_the_definitions() {
             _ => {}
         }
     }
-    assert_eq!((runs, decisions), (8, 70), "runs and decisions");
+    assert_eq!((runs, decisions), (6, 70), "runs and decisions");
 }
 
 /// The examples of the sources, with the answers that are written beside them.

@@ -1,7 +1,8 @@
-// How the deciding rule is chosen: the heaviest match of each side, one rule after the other, and the decision that these are.
+// How the deciding rule is chosen: the heaviest match of each side, one rule after the other, and the decision that these are, or a refused one.
 
 ghost use mathlib.Core.Path.{_≡_};
 ghost use Prim.Native.Nat.{_+_, _<_, _^_};
+ghost use Rattle.protocol.specs.Answers.{refusedDecision};
 ghost use Rattle.choice.specs.Bests.{noBest, noStanding, better, standing, decidedAs, concluded};
 use protocol::Decision;
 use protocol::LineNumber;
@@ -114,4 +115,19 @@ pub fn conclude(s: Standing, unread: usize) -> Decision
         return decided_as(Side::Disallow, disallow, unread, s.compared);
     }
     decided_as(Side::Allow, allow, unread, s.compared)
+}
+
+// A refused decision fails shut: disallow, and zeros.
+pub fn refused(refusal: usize) -> Decision
+    ensures { λ r. ⌜ r ≡ refusedDecision refusal ⌝ }
+{
+    Decision {
+        refusal,
+        side: Side::Disallow,
+        line: LineNumber { number: 0 },
+        place: Place { offset: 0 },
+        length: 0,
+        unread: 0,
+        compared: 0,
+    }
 }

@@ -7,7 +7,7 @@ use Rattle.protocol.specs.Readable.{everyone}
 use Rattle.protocol.specs.Entries.{entries}
 use Rattle.protocol.specs.Rules.{someGroupNames, addressee}
 use Rattle.protocol.specs.Decision.{isRobotsFile}
-use Rattle.decide.specs.Steps.{asked}
+use Rattle.passes.specs.Tallies.{asked}
 
 module _ (file name path : List ℕ) where
   pub asked-nobody : isRobotsFile path ≡ true → asked file name path ≡ []

@@ -1,9 +1,3 @@
-pub mod Bounds
-pub mod Groups
-pub mod Naming
-pub mod Spans
-pub mod Tallied
 mod Asking
+mod Outputs
 mod Refusing
-mod Stepping
-mod Walking

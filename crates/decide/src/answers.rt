@@ -7,14 +7,12 @@ ghost use Rattle.protocol.specs.Lines.{linesOf};
 ghost use Rattle.protocol.specs.Entries.{entries};
 ghost use Rattle.protocol.specs.Normal.{normalPath};
 ghost use Rattle.protocol.specs.Refusals.{badName, decideRefusal};
-ghost use Rattle.protocol.specs.Decision.{isRobotsFile, answered};
-ghost use Rattle.protocol.specs.Answers.{refusedDecision, decide, sideNumber};
-ghost use Rattle.decide.specs.Steps.{noTally, tallied, asked};
-use crate::fold::Tally;
+ghost use Rattle.protocol.specs.Decision.{answered};
+ghost use Rattle.protocol.specs.Answers.{decide};
+ghost use Rattle.tally.specs.Steps.{noTally};
+ghost use Rattle.passes.specs.Tallies.{tallied, asked};
 use protocol::Decision;
-use protocol::LineNumber;
-use protocol::Place;
-use protocol::Side;
+use tally::Tally;
 
 fn is_bad_name(name: &[u8]) -> bool
     ensures { λ r. ⌜ r ≡ badName (now (name .entry)) .given ⌝ }
@@ -25,7 +23,7 @@ fn is_bad_name(name: &[u8]) -> bool
     if 64 < name.len() {
         return true;
     }
-    !lines::readable::all_token(name)
+    !readable::all_token(name)
 }
 
 pub fn decide_refusal(file: &[u8], name: &[u8], path: &[u8]) -> usize
@@ -37,25 +35,7 @@ pub fn decide_refusal(file: &[u8], name: &[u8], path: &[u8]) -> usize
     if is_bad_name(name) {
         return 2;
     }
-    normal::path_refusal(path)
-}
-
-// The normalised path is /robots.txt.
-fn is_robots_file(path: &[u8]) -> bool
-    ensures { λ r. ⌜ r ≡ isRobotsFile (now (path .entry)) ⌝ }
-{
-    let wanted = *b"/robots.txt";
-    if path.len() != 11 {
-        return false;
-    }
-    let mut i = 0;
-    while i < path.len() {
-        if path[i] != wanted[i] {
-            return false;
-        }
-        i += 1;
-    }
-    true
+    paths::path_refusal(path)
 }
 
 // Whose groups count is chosen first: nobody's for /robots.txt, the crawler's if some group names it, else those of "*".
@@ -63,14 +43,14 @@ fn tally_for(file: &[u8], name: &[u8], path: &[u8], scratch: &mut [u8]) -> Tally
     requires { ⌜ (length (now file) ≤ 512000) × (length (now path) ≤ 6142) × (length (now path) ≤ length (now scratch)) ⌝ }
     ensures { λ r. ⌜ r ≡ tallied (asked (now (file .entry)) (now (name .entry)) (now (path .entry))) (now (path .entry)) noTally (linesOf (now (file .entry))) ⌝ }
 {
-    if is_robots_file(path) {
-        return crate::fold::fold(file, &name[..0], path, scratch);
+    if paths::is_robots_file(path) {
+        return passes::fold(file, &name[..0], path, scratch);
     }
-    if crate::names::some_group_names(file, name) {
-        return crate::fold::fold(file, name, path, scratch);
+    if passes::some_group_names(file, name) {
+        return passes::fold(file, name, path, scratch);
     }
     let everyone = [b'*'];
-    crate::fold::fold(file, &everyone, path, scratch)
+    passes::fold(file, &everyone, path, scratch)
 }
 
 // The answer where nothing is refused, with memory for the normalised path and for the runs of patterns.
@@ -121,37 +101,12 @@ fn answer(file: &[u8], name: &[u8], path: &[u8]) -> Decision
     answer_long(file, name, path)
 }
 
-// A refused decision fails shut: disallow, and zeros.
-fn refused(refusal: usize) -> Decision
-    ensures { λ r. ⌜ r ≡ refusedDecision refusal ⌝ }
-{
-    Decision {
-        refusal,
-        side: Side::Disallow,
-        line: LineNumber { number: 0 },
-        place: Place { offset: 0 },
-        length: 0,
-        unread: 0,
-        compared: 0,
-    }
-}
-
 pub fn decide(file: &[u8], name: &[u8], path: &[u8]) -> Decision
     ensures { λ r. ⌜ r ≡ decide (now (file .entry)) (now (name .entry)) (now (path .entry)) ⌝ }
 {
     let refusal = decide_refusal(file, name, path);
     if refusal != 0 {
-        return refused(refusal);
+        return choice::refused(refusal);
     }
     answer(file, name, path)
-}
-
-// Allow or disallow, where a number is wanted.
-pub fn side_number(side: Side) -> usize
-    ensures { λ r. ⌜ r ≡ sideNumber side ⌝ }
-{
-    match side {
-        Side::Allow => 0,
-        Side::Disallow => 1,
-    }
 }

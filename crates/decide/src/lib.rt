@@ -1,6 +1,4 @@
 // Deciding: whose groups count, then the rules of these groups, walked, then the decision.
 
-pub mod names; // names.rt: whom an agent line names
-mod fold; // fold.rt: the lines of a file, one after the other
 pub mod answers; // answers.rt: the answer to a caller, with its refusal
 pub mod program; // program.rt: what the program writes for its input

@@ -15,12 +15,12 @@ use Rattle.lists.proofs.Scans.{rest-of, drop-one, take-upTo, drop-upTo, upTo-fi
 use Rattle.protocol.specs.Octets.{is}
 use Rattle.protocol.specs.Text.{begins, trimEnd}
 use Rattle.protocol.specs.Readable.{wellFormed, patternStart, readablePattern}
-use Rattle.lines.specs.Due.{ordinary, unusual}
-use Rattle.lines.proofs.Due.{well-formed-front}
-use Rattle.kinds.specs.Fields.{stop, ended, valueAt}
+use Rattle.readable.specs.Due.{ordinary, unusual}
+use Rattle.readable.proofs.Characters.{well-formed-front}
+use Rattle.fields.specs.Fields.{stop, ended, valueAt}
 use Rattle.lists.proofs.Cuts.{upTo-first}
-use Rattle.kinds.proofs.Ends.{solid-stays, end-read, end-fits}
-use Rattle.kinds.proofs.Sorts.{past-stop, past-blank}
+use Rattle.fields.proofs.Ends.{solid-stays, end-read, end-fits}
+use Rattle.fields.proofs.Sorts.{past-stop, past-blank}
 
 -- the value's octets
 value-read : (l : List ℕ) → take (length (trimEnd (upTo stop l))) l ≡ trimEnd (upTo stop l)

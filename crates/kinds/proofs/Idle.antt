@@ -14,13 +14,13 @@ use Rattle.protocol.specs.Octets.{is}
 use Rattle.protocol.specs.Text.{begins, solid, lead, trimEnd, trim}
 use Rattle.protocol.specs.Lines.{lineText}
 use Rattle.protocol.specs.Kinds.{kindOf}
-use Rattle.kinds.specs.declared.fields.Field.{Field}
-use Rattle.kinds.specs.Fields.{fieldOf, stop, mark}
+use Rattle.fields.specs.declared.Field.{Field}
+use Rattle.fields.specs.Fields.{fieldOf, stop, mark}
 use Rattle.lists.proofs.Cuts.{upTo-none, upTo-either, upTo-past, any-past}
-use Rattle.kinds.proofs.Ends.{end-empty}
-use Rattle.kinds.proofs.Reading.{kind-idle}
-use Rattle.kinds.proofs.Heads.{past-start, kind-other}
-use Rattle.kinds.proofs.Sorts.{stop-solid, colon-solid, colon-on}
+use Rattle.fields.proofs.Ends.{end-empty}
+use Rattle.fields.proofs.Reading.{kind-idle}
+use Rattle.fields.proofs.Heads.{past-start, kind-other}
+use Rattle.fields.proofs.Sorts.{stop-solid, colon-solid, colon-on}
 
 -- a colon is examined exactly where the first colon or stop is one
 colon-first : (t : List ℕ) → any (is ":") (upTo stop t) ≡ begins ":" (from mark t)

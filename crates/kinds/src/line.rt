@@ -10,10 +10,10 @@ ghost use Rattle.protocol.specs.Text.{trimEnd};
 ghost use Rattle.protocol.specs.Lines.{lineText};
 ghost use Rattle.protocol.specs.Readable.{wellFormed};
 ghost use Rattle.protocol.specs.Kinds.{agentAt, patternAt, kindOf};
-ghost use Rattle.kinds.specs.declared.fields.Field.{Field};
-ghost use Rattle.kinds.specs.Fields.{fieldOf, sideOf, headOf, stop, mark, ended, valueAt};
-use crate::fields::Field;
-use crate::fields::Head;
+ghost use Rattle.fields.specs.declared.Field.{Field};
+ghost use Rattle.fields.specs.Fields.{fieldOf, sideOf, headOf, stop, mark, ended, valueAt};
+use fields::Field;
+use fields::Head;
 use protocol::Agent;
 use protocol::Kind;
 use protocol::Pattern;
@@ -27,7 +27,7 @@ fn agent_at(place: Place, value: &[u8]) -> Agent
     if value.len() == 0 {
         return Agent::Unreadable(Place { offset: 0 }, 0);
     }
-    if lines::readable::readable_agent(value) {
+    if readable::readable_agent(value) {
         Agent::Readable(place, value.len())
     } else {
         Agent::Unreadable(place, value.len())
@@ -41,7 +41,7 @@ fn pattern_at(place: Place, value: &[u8]) -> Pattern
     if value.len() == 0 {
         return Pattern::Empty;
     }
-    if lines::readable::readable_pattern(value) {
+    if readable::readable_pattern(value) {
         Pattern::Readable(place, value.len())
     } else {
         Pattern::Unreadable(place, value.len())
@@ -80,7 +80,7 @@ fn value_length(s: &[u8]) -> usize
     ensures { λ r. ⌜ r ≡ length (trimEnd (upTo stop (now (s .entry)))) ⌝ }
 {
     let end = examined(s);
-    lines::text::trimmed_length(&s[..end])
+    text::trimmed_length(&s[..end])
 }
 
 // The agent of the value that begins there.
@@ -123,7 +123,7 @@ pub fn pattern_of(r: &[u8], value: usize) -> Pattern
     ensures { λ p. ⌜ p ≡ patternAt value (valueAt value (now (r .entry))) ⌝ }
 {
     let rest = &r[value..];
-    let n = lines::readable::ordinary_front(rest);
+    let n = readable::ordinary_front(rest);
     if ends_at(rest, n) {
         return formed_pattern(Place { offset: value }, &rest[..n]);
     }
@@ -163,10 +163,10 @@ fn idle_kind(r: &[u8]) -> Kind
     requires { ⌜ fieldOf (kindOf (lineText (now r))) ≡ Field.Other ⌝ }
     ensures { λ k. ⌜ k ≡ kindOf (lineText (now (r .entry))) ⌝ }
 {
-    let start = lines::text::lead(r);
+    let start = text::lead(r);
     let rest = &r[start..];
     let n = field_end(rest);
-    if crate::fields::colon_at(rest, n) {
+    if fields::colon_at(rest, n) {
         return Kind::Other;
     }
     if n == 0 {
@@ -206,5 +206,5 @@ pub fn kind_at(r: &[u8], head: Head) -> Kind
 pub fn kind_of(r: &[u8]) -> Kind
     ensures { λ k. ⌜ k ≡ kindOf (lineText (now (r .entry))) ⌝ }
 {
-    kind_at(r, crate::fields::head_of(r))
+    kind_at(r, fields::head_of(r))
 }

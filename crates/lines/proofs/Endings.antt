@@ -8,18 +8,10 @@ use lib.Dec.{eqb}
 use lib.ListN.{length, getD}
 use borrow.Author.Tests.{eqb-true}
 use Rattle.lists.specs.Choice.{if_then_else_}
-use Rattle.lists.proofs.Bools.{split, and-left, and-right}
+use Rattle.lists.proofs.Bools.{and-left, and-right}
 use Rattle.protocol.specs.Octets.{is, lineEnd}
 use Rattle.protocol.specs.Text.{begins}
 use Rattle.protocol.specs.Lines.{endingLength, marked}
-use Rattle.lines.specs.Parts.{among}
-
--- CR and LF are no greater than CR
-pub end-low : (x : ℕ) → lineEnd x ≡ true → among 0 13 true x ≡ true
-unfolding lineEnd
-end-low x e =
-    split (is "\r" x) (λ r. rw (eqb-true x 13 r))
-    (λ r. let n : is "\n" x ≡ true = rw r at e in rw (eqb-true x 10 n))
 
 pub no-ending : (s : List ℕ) → length s ≡ 0 → endingLength s ≡ 0
 unfolding endingLength

@@ -1,4 +1,2 @@
-pub mod Due
-pub mod Parts
 pub mod Skips
 pub mod Spans

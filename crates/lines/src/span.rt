@@ -77,7 +77,7 @@ pub fn next_line(file: &[u8], from: Place) -> Span
     ensures { λ r. ⌜ r ≡ lineAt (now (file .entry)) from ⌝ }
 {
     let start = from.offset;
-    let end = crate::text::line_end(file, start);
+    let end = text::line_end(file, start);
     if file.len() <= end {
         return Span {
             start: from,

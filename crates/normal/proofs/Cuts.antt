@@ -14,9 +14,9 @@ use Rattle.lists.proofs.Fronts.{upTo-clear}
 use Rattle.protocol.specs.Octets.{hex, unreserved}
 use Rattle.protocol.specs.Normal.{encoded, meant, escape, isEscape, escapeAt, special, isEncoded, plain, piece, normal}
 use Rattle.protocol.specs.Pattern.{isStar, firstRun, laterRuns}
-use Rattle.normal.specs.Pieces.{taken}
-use Rattle.normal.proofs.Sorts.{unreserved-not-star, hex-not-star, upper-not-star, digit-not-star}
-use Rattle.normal.proofs.Forms.{no-percent, escape-hex}
+use Rattle.pieces.specs.Pieces.{taken}
+use Rattle.pieces.proofs.Sorts.{unreserved-not-star, hex-not-star, upper-not-star, digit-not-star}
+use Rattle.pieces.proofs.Forms.{no-percent, escape-hex}
 use Rattle.normal.proofs.Steps.{normal-cons, by-pieces}
 
 -- no star is among these octets

@@ -10,10 +10,10 @@ use Rattle.lists.proofs.Bools.{split}
 use Rattle.lists.proofs.Scans.{drop-one}
 use Rattle.lists.proofs.Fronts.{sets-append}
 use Rattle.protocol.specs.Normal.{isEscape, piece, normal}
-use Rattle.normal.specs.declared.Piece.{Piece}
-use Rattle.normal.specs.declared.Measure.{Measure}
-use Rattle.normal.specs.Pieces.{octetsOf, taken, PieceAt, MeasureAt}
-use Rattle.normal.proofs.Forms.{measureOf, measured}
+use Rattle.pieces.specs.declared.Piece.{Piece}
+use Rattle.pieces.specs.declared.Measure.{Measure}
+use Rattle.pieces.specs.Pieces.{octetsOf, taken, PieceAt, MeasureAt}
+use Rattle.pieces.proofs.Forms.{measureOf, measured}
 
 -- what belongs to an escape that is done is passed over
 skip : (stars : Bool) (n : ℕ) (l : List ℕ) → normal stars n l ≡ normal stars 0 (drop n l)

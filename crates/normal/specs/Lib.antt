@@ -1,2 +1,2 @@
-pub mod Pieces
 pub mod Runs
+pub mod Sizes

@@ -1,5 +1,5 @@
--- "Just inside: a 512,000-octet file [..]. One more octet [..] is refused": the limit that is too long to compute with. The others are
--- rows of specs/OwnExamples.antt. And how long a path is that isn't refused. Assumes nothing.
+-- "Just inside: a 512,000-octet file [..]. One more octet [..] is refused", and "program only: input over 65,536 octets": the limits that are
+-- too long to compute with. The others are rows of specs/OwnExamples.antt. And how long a path is that isn't refused. Assumes nothing.
 use Prim.Native.Nat.{ℕ, _≤_, _<_}
 use mathlib.Core.Path.{_≡_}
 use mathlib.Core.Bool.{true}
@@ -13,6 +13,7 @@ use Rattle.protocol.specs.Octets.{is}
 use Rattle.protocol.specs.Text.{begins}
 use Rattle.protocol.specs.Normal.{normalPath}
 use Rattle.protocol.specs.Refusals.{Row, tooLong, severalLines, badName, badPattern, pathRows, refusal, decideRefusal, matchRefusal, lineRefusal}
+use Rattle.protocol.specs.Program.{refusedText, textBy, decideInput, output}
 use Rattle.protocol.proofs.Sizes.{path-limit}
 
 module _ (l : List ℕ) (rows : List Row) where
@@ -40,6 +41,16 @@ pattern-too-long pattern path h = too-long pattern (pathRows path ++ (badPattern
 pub line-too-long : (line : List ℕ) → 512_000 < length line → lineRefusal line ≡ 1
 unfolding lineRefusal
 line-too-long line h = too-long line (severalLines line ∷ []) h
+
+-- "the program tests 7 before all others"
+module _ (input : List ℕ) where
+  pub output-refused : 65_536 < length input → output input ≡ refusedText 7
+  unfolding output
+  output-refused h = rw (lt-ltb 65_536 (length input) h)
+
+  pub output-answered : length input ≤ 65_536 → output input ≡ textBy (decideInput input .refusal) (decideInput input)
+  unfolding output
+  output-answered h = rw (le-ltb 65_536 (length input) h)
 
 -- the beginning and the length of a path that no row of its own refuses
 pub path-known : (path : List ℕ) → refusal (pathRows path) ≡ 0 → (begins "/" path ≡ true) × (length path ≤ 2_048)

@@ -1,4 +1,3 @@
 pub mod Building
 pub mod Decimals
 pub mod Fronts
-pub mod Outputs

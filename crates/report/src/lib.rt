@@ -1,15 +1,15 @@
 // What the program reads and writes: the parts of its input, and the line of its output.
 
 pub mod parts; // parts.rt: the lines of the input, one after the other
-pub mod text; // text.rt: texts and numbers, put in front of what stands behind them
+pub mod before; // before.rt: texts and numbers, put in front of what stands behind them
 
 ghost use Rattle.protocol.specs.Program.{refusedText, answerText, textBy};
 ghost use Rattle.report.specs.Written.{Holds};
+use before::decimal_before;
+use before::named_before;
+use before::side_before;
+use before::text_before;
 use protocol::Decision;
-use text::decimal_before;
-use text::named_before;
-use text::side_before;
-use text::text_before;
 
 // A line of output: its octets are those from `start` to the array's end. The longest is a disallow with three numbers of 20 digits: 93
 // octets.

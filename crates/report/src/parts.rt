@@ -7,7 +7,7 @@ ghost use Rattle.protocol.specs.Program.{firstPart, behind};
 pub fn first_part(s: &[u8]) -> &[u8]
     ensures { λ r. ⌜ now r ≡ firstPart (now (s .entry)) ⌝ }
 {
-    let end = lines::text::find(s, b'\n');
+    let end = text::find(s, b'\n');
     &s[..end]
 }
 
@@ -15,7 +15,7 @@ pub fn first_part(s: &[u8]) -> &[u8]
 pub fn behind(s: &[u8]) -> &[u8]
     ensures { λ r. ⌜ now r ≡ behind (now (s .entry)) ⌝ }
 {
-    let end = lines::text::find(s, b'\n');
+    let end = text::find(s, b'\n');
     if end == s.len() {
         return &s[end..];
     }

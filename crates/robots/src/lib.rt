@@ -31,7 +31,7 @@ pub extern "C" fn robots_decide_disallow(file: &[u8], name: &[u8], path: &[u8]) 
 {
     let answer = decide::answers::decide(file, name, path);
     let side = answer.side;
-    decide::answers::side_number(side)
+    numbers::side_number(side)
 }
 
 // The line of the rule that decided, counted from 1: 0 where none did.
@@ -86,7 +86,7 @@ pub extern "C" fn robots_decide_compared(file: &[u8], name: &[u8], path: &[u8]) 
 pub extern "C" fn robots_match_refusal(pattern: &[u8], path: &[u8]) -> usize
     ensures { λ r. ⌜ r ≡ matchRefusal (now (pattern .entry)) (now (path .entry)) ⌝ }
 {
-    walk::answers::match_refusal(pattern, path)
+    matching::match_refusal(pattern, path)
 }
 
 // 1 where the pattern matches the path, and 0 where it doesn't or the match is refused. Not refused, it is 1 exactly where some filling of the
@@ -96,7 +96,7 @@ pub extern "C" fn robots_match_found(pattern: &[u8], path: &[u8]) -> usize
     ensures { λ r. ⌜ r ≡ foundNumber (matchOf (now (pattern .entry)) (now (path .entry)) .found) ⌝ }
     ensures { λ r. ⌜ (matchRefusal (now (pattern .entry)) (now (path .entry)) ≡ 0 → (r ≡ 1) ↔ Matches (shapeOf (now (pattern .entry))) (normalPath (now (path .entry)))) ⌝ }
 {
-    let answer = walk::answers::match_pattern(pattern, path);
+    let answer = matching::match_pattern(pattern, path);
     if answer.found { 1 } else { 0 }
 }
 
@@ -107,7 +107,7 @@ pub extern "C" fn robots_match_compared(pattern: &[u8], path: &[u8]) -> usize
     ensures { λ r. ⌜ r ≡ matchOf (now (pattern .entry)) (now (path .entry)) .compared ⌝ }
     ensures { λ r. ⌜ r ≤ weight (shapeOf (now (pattern .entry))) * length (normalPath (now (path .entry))) ⌝ }
 {
-    let answer = walk::answers::match_pattern(pattern, path);
+    let answer = matching::match_pattern(pattern, path);
     answer.compared
 }
 
@@ -117,7 +117,7 @@ pub extern "C" fn robots_normalise(path: &[u8], buffer: &mut [u8]) -> usize
     ensures { λ r. ⌜ r ≡ normaliseOf (now (path .entry)) (now (buffer .entry)) .written ⌝ }
     ensures { λ _. ⌜ now (buffer .exit) ≡ normaliseBuffer (now (path .entry)) (now (buffer .entry)) ⌝ }
 {
-    let answer = normal::normalise(path, buffer);
+    let answer = paths::normalise(path, buffer);
     answer.written
 }
 
@@ -126,7 +126,7 @@ pub extern "C" fn robots_normalise(path: &[u8], buffer: &mut [u8]) -> usize
 pub extern "C" fn robots_normalise_refusal(path: &[u8], room: usize) -> usize
     ensures { λ r. ⌜ r ≡ normaliseRefusal room (now (path .entry)) ⌝ }
 {
-    normal::normalise_refusal(path, room)
+    paths::normalise_refusal(path, room)
 }
 
 #[no_mangle]
@@ -141,7 +141,7 @@ pub extern "C" fn robots_line_kind(line: &[u8]) -> usize
     ensures { λ r. ⌜ r ≡ kindNumberOf (lineAnswer (now (line .entry))) ⌝ }
 {
     let answer = kinds::answers::line_answer(line);
-    kinds::answers::kind_number_of(answer)
+    numbers::kind_number_of(answer)
 }
 
 #[no_mangle]
@@ -149,7 +149,7 @@ pub extern "C" fn robots_line_place(line: &[u8]) -> usize
     ensures { λ r. ⌜ r ≡ valuePlace (lineAnswer (now (line .entry))) .offset ⌝ }
 {
     let answer = kinds::answers::line_answer(line);
-    let place = kinds::answers::value_place(answer);
+    let place = numbers::value_place(answer);
     place.offset
 }
 
@@ -158,5 +158,5 @@ pub extern "C" fn robots_line_length(line: &[u8]) -> usize
     ensures { λ r. ⌜ r ≡ valueLength (lineAnswer (now (line .entry))) ⌝ }
 {
     let answer = kinds::answers::line_answer(line);
-    kinds::answers::value_length(answer)
+    numbers::value_length(answer)
 }

@@ -1,13 +1,13 @@
 -- A pattern of literal octets: normalising leaves it as it is, and it is one run without an end mark. Assumes nothing.
-use Prim.Native.Nat.{ℕ, _≤_, _<_}
+use Prim.Native.Nat.{ℕ, _<_, compare·suc-suc}
 use Prim.Native.Char.{Char, code}
 use mathlib.Core.Path.{_≡_, refl, ap}
-use mathlib.Core.Bool.{true, false, and-false}
+use mathlib.Core.Bool.{true, false}
 use mathlib.Core.List.{List, [], _∷_}
 use native.Mathlib.Omega.{arith}
-use lib.Dec.{leb}
+use lib.Dec.{eqb, leb}
 use lib.ListN.{length}
-use borrow.Author.Tests.{leb-true, le-leb, lt-leb, ne-eqb}
+use borrow.Author.Tests.{leb-true, lt-leb, ne-eqb}
 use Rattle.lists.specs.Lists.{empty, all, upTo}
 use Rattle.lists.proofs.Bools.{split, and-left, and-right}
 use Rattle.protocol.specs.Octets.{is}
@@ -15,6 +15,7 @@ use Rattle.protocol.specs.Text.{ends}
 use Rattle.protocol.specs.Normal.{isEscape, special, plain, piece, normal}
 use Rattle.protocol.specs.Pattern.{rawText, shapeOf, weight, firstRun, laterRuns}
 use Rattle.protocol.specs.Walk.{first, later, walkRuns, walk}
+use Rattle.text.specs.Parts.{among}
 use Rattle.walk.specs.Texts.{literal}
 
 module _ (x : ℕ) (h : literal x ≡ true) where
@@ -33,15 +34,14 @@ module _ (x : ℕ) (h : literal x ≡ true) where
   literal-plain =
       rw (literal-not "%" (omega arith), literal-not "$" (omega arith), literal-not "*" (omega arith), lt-leb 0x7F x (omega (arith, leb-true x 0x7E (and-right (leb 0x2B x) (leb x 0x7E) h))))
 
--- the tests that tell a literal octet
-pub literal-below : (x : ℕ) → x < 0x2B → literal x ≡ false
-literal-below x l = rw (lt-leb 0x2B x l)
-
-pub literal-above : (x : ℕ) → 0x7E < x → literal x ≡ false
-literal-above x l = rw (lt-leb x 0x7E l) (and-false (leb 0x2B x))
-
-pub literal-between : (x : ℕ) → 0x2B ≤ x → x ≤ 0x7E → literal x ≡ true
-literal-between x l m = rw (le-leb 0x2B x l, le-leb x 0x7E m)
+-- a search for any other octet passes them all
+pub literal-sought : (l : List ℕ) → eqb (length (upTo (among 0x2B 0x7E false) l)) (length l) ≡ all literal l
+unfolding upTo all
+literal-sought [] = refl
+literal-sought (x ∷ l) =
+    split (literal x)
+    (λ e. rw (e, compare·suc-suc (length (upTo (among 0x2B 0x7E false) l)) (length l)) (literal-sought l))
+    (λ e. rw e (ne-eqb 0 (length (x ∷ l)) (λ q. omega (arith, q))))
 
 -- a pattern of literal octets
 record Literal (l : List ℕ) : Type 0 where

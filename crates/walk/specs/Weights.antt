@@ -6,7 +6,7 @@ use Rattle.lists.specs.Choice.{if_then_else_}
 use Rattle.protocol.specs.declared.Walked.{Walked}
 use Rattle.protocol.specs.Pattern.{shapeOf, weight}
 use Rattle.protocol.specs.Walk.{walk}
-use Rattle.walk.specs.declared.patterns.Weighed.{Weighed}
+use Rattle.walk.specs.declared.Weighed.{Weighed}
 
 -- the most that a raw pattern's walk over a normalised path can count is a number of 64 bits
 abbrev pub CountFits : List ℕ → List ℕ → Type 0

@@ -1,6 +1,145 @@
-// The leftmost walk of a pattern over a path, with the pairs of octets that it compares; and the answer to a caller who asks whether a
-// pattern matches.
+// The walk of a raw pattern: it is cut at its stars, and each run that is reached is normalised into lent scratch, which needs no more room
+// than the path.
 
-mod runs; // runs.rt: one run of a walk
-pub mod patterns; // patterns.rt: the walk of a raw pattern, and its weight where it matches
-pub mod answers; // answers.rt: the answer to a caller, with its refusal
+ghost use mathlib.Core.Path.{_≡_};
+ghost use mathlib.Core.Bool.{true, _&&_};
+ghost use Prim.Native.Nat.{_≤_, _<_, _^_};
+ghost use lib.ListN.{length};
+ghost use lib.Dec.{eqb};
+ghost use Rattle.lists.specs.Lists.{all};
+ghost use Rattle.protocol.specs.Pattern.{shapeOf, weight};
+ghost use Rattle.protocol.specs.Walk.{first, next, walk};
+ghost use Rattle.normal.specs.Runs.{normalRun, runScratch};
+ghost use Rattle.walk.specs.Texts.{walkText, scratchText, walkScratch, literal, weighScratch};
+ghost use Rattle.walk.specs.Weights.{CountFits, weighedWalk, weighed};
+use normal::Written;
+use protocol::Walked;
+
+// What a walk found, the pattern's weight where that is a match, and the pairs compared.
+pub struct Weighed {
+    pub found: bool,
+    pub weight: usize,
+    pub compared: usize,
+}
+
+// The first run, raw. One that doesn't fit the scratch is longer than the path.
+fn first_raw(run: &[u8], path: &[u8], last: bool, scratch: &mut [u8]) -> Walked
+    requires { ⌜ length (now path) ≤ length (now scratch) ⌝ }
+    ensures { λ r. ⌜ r ≡ first last (normalRun (now (run .entry))) (now (path .entry)) ⌝ }
+    ensures { λ _. ⌜ now (scratch .exit) ≡ runScratch (now (run .entry)) (now (scratch .entry)) ⌝ }
+{
+    match normal::normalise_run(run, scratch) {
+        Written::Octets(n) => runs::first_run(&scratch[..n], path, last),
+        Written::NoRoom => runs::fail(0),
+    }
+}
+
+// A later run, raw, where all runs before it stood.
+fn later_raw(run: &[u8], path: &[u8], last: bool, w: Walked, scratch: &mut [u8]) -> Walked
+    requires { ⌜ (length (now path) ≤ length (now scratch)) × (w .stood ≡ true) × (w .past ≤ length (now path)) × (next last (normalRun (now run)) (now path) w .count < 2 ^ 64) ⌝ }
+    ensures { λ r. ⌜ r ≡ next last (normalRun (now (run .entry))) (now (path .entry)) w ⌝ }
+    ensures { λ _. ⌜ now (scratch .exit) ≡ runScratch (now (run .entry)) (now (scratch .entry)) ⌝ }
+{
+    match normal::normalise_run(run, scratch) {
+        Written::Octets(n) => runs::later_run(&scratch[..n], path, last, w),
+        Written::NoRoom => runs::fail(w.count),
+    }
+}
+
+// A run is the end-marked last one if the pattern has an end mark and no star is behind the run.
+fn is_last(marked: bool, end: usize, size: usize) -> bool
+    ensures { λ r. ⌜ r ≡ (marked && eqb end size) ⌝ }
+{
+    if marked { end == size } else { false }
+}
+
+// The walk of a raw pattern without its end mark.
+fn walk_text(text: &[u8], marked: bool, path: &[u8], scratch: &mut [u8]) -> Walked
+    requires { ⌜ (length (now path) ≤ length (now scratch)) × (walkText marked (now text) (now path) .count < 2 ^ 64) ⌝ }
+    ensures { λ r. ⌜ r ≡ walkText marked (now (text .entry)) (now (path .entry)) ⌝ }
+    ensures { λ _. ⌜ now (scratch .exit) ≡ scratchText marked (now (text .entry)) (now (path .entry)) (now (scratch .entry)) ⌝ }
+{
+    let mut end = text::find(text, b'*');
+    let mut w = first_raw(
+        &text[..end],
+        path,
+        is_last(marked, end, text.len()),
+        scratch,
+    );
+    while end < text.len() {
+        if !w.stood {
+            return w;
+        }
+        let start = end + 1;
+        end = start + text::find(&text[start..], b'*');
+        w = later_raw(
+            &text[start..end],
+            path,
+            is_last(marked, end, text.len()),
+            w,
+            scratch,
+        );
+    }
+    w
+}
+
+// The walk of a raw pattern.
+pub fn walk_pattern(pattern: &[u8], path: &[u8], scratch: &mut [u8]) -> Walked
+    requires { ⌜ (length (now path) ≤ length (now scratch)) × CountFits (now pattern) (now path) ⌝ }
+    ensures { λ r. ⌜ r ≡ walk (shapeOf (now (pattern .entry))) (now (path .entry)) ⌝ }
+    ensures { λ _. ⌜ now (scratch .exit) ≡ walkScratch (now (pattern .entry)) (now (path .entry)) (now (scratch .entry)) ⌝ }
+{
+    let end = normal::text_length(pattern);
+    let marked = end < pattern.len();
+    walk_text(&pattern[..end], marked, path, scratch)
+}
+
+// What a walk found, for a pattern of that weight.
+fn weighed_walk(w: Walked, weight: usize) -> Weighed
+    ensures { λ r. ⌜ r ≡ weighedWalk w weight ⌝ }
+{
+    if w.stood {
+        return Weighed {
+            found: true,
+            weight,
+            compared: w.count,
+        };
+    }
+    Weighed {
+        found: false,
+        weight: 0,
+        compared: w.count,
+    }
+}
+
+// A pattern without a star, an end mark, and an octet that normalising could change.
+fn is_literal(pattern: &[u8]) -> bool
+    ensures { λ r. ⌜ r ≡ all literal (now (pattern .entry)) ⌝ }
+{
+    text::seek(pattern, 0, 0x2B, 0x7E, false) == pattern.len()
+}
+
+// Such a pattern is one run as it stands, and weighs its octets.
+fn weigh_literal(pattern: &[u8], path: &[u8]) -> Weighed
+    requires { ⌜ all literal (now pattern) ≡ true ⌝ }
+    ensures { λ r. ⌜ r ≡ weighed (now (pattern .entry)) (now (path .entry)) ⌝ }
+{
+    let w = runs::first_run(pattern, path, false);
+    weighed_walk(w, pattern.len())
+}
+
+// A pattern's match, weight and count, out of one walk.
+pub fn weigh(pattern: &[u8], path: &[u8], scratch: &mut [u8]) -> Weighed
+    requires { ⌜ (length (now path) ≤ length (now scratch)) × (weight (shapeOf (now pattern)) < 2 ^ 64) × CountFits (now pattern) (now path) ⌝ }
+    ensures { λ r. ⌜ r ≡ weighed (now (pattern .entry)) (now (path .entry)) ⌝ }
+    ensures { λ _. ⌜ now (scratch .exit) ≡ weighScratch (now (pattern .entry)) (now (path .entry)) (now (scratch .entry)) ⌝ }
+{
+    if is_literal(pattern) {
+        return weigh_literal(pattern, path);
+    }
+    let w = walk_pattern(pattern, path, scratch);
+    if w.stood {
+        return weighed_walk(w, normal::weight_of(pattern));
+    }
+    weighed_walk(w, 0)
+}

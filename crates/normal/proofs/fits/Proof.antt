@@ -6,7 +6,7 @@ use borrow.Author.Tests.{le-leb}
 use Rattle.protocol.specs.Normal.{normal}
 use Rattle.protocol.proofs.Sizes.{normal-size}
 use Rattle.normal.specs.declared.Size.{Size}
-use Rattle.normal.specs.Pieces.{sizeWithin}
+use Rattle.normal.specs.Sizes.{sizeWithin}
 use Rattle.normal.proofs.fits.Statement.{statement}
 use Rattle.normal.proofs.fits.Tie as tie
 

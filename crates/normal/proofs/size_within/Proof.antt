@@ -5,7 +5,7 @@ use native.Mathlib.Omega.{arith}
 use lib.ListN.{length, drop}
 use borrow.Author.Tests.{lt-leb, le-leb}
 use Rattle.protocol.specs.Normal.{normal}
-use Rattle.normal.specs.Pieces.{sizeWithin}
+use Rattle.normal.specs.Sizes.{sizeWithin}
 use Rattle.normal.proofs.Steps.{Turn, turn, normal-end}
 use Rattle.normal.proofs.size_within.Statement.{statement}
 use Rattle.normal.proofs.size_within.Tie as tie

@@ -10,7 +10,7 @@ use Rattle.protocol.specs.Normal.{normal}
 use Rattle.protocol.specs.Pattern.{rawText}
 use Rattle.protocol.proofs.Sizes.{mark-length}
 use Rattle.normal.specs.declared.Size.{Size}
-use Rattle.normal.specs.Pieces.{sizeWithin}
+use Rattle.normal.specs.Sizes.{sizeWithin}
 use Rattle.normal.proofs.Marks.{text-front, weight-parts}
 use Rattle.normal.proofs.weight_of.Statement.{statement}
 use Rattle.normal.proofs.weight_of.Tie as tie

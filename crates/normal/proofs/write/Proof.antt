@@ -6,9 +6,9 @@ use lib.ListN.{length, drop, getD, length-set}
 use lib.Seq.{sets}
 use Rattle.lists.proofs.Fronts.{sets-front}
 use Rattle.protocol.specs.Normal.{normal}
-use Rattle.normal.specs.declared.Piece.{Piece}
-use Rattle.normal.specs.Pieces.{PieceAt}
-use Rattle.normal.proofs.Forms.{alone, piece-kept, piece-changed, measureOf, measured}
+use Rattle.pieces.specs.declared.Piece.{Piece}
+use Rattle.pieces.specs.Pieces.{PieceAt}
+use Rattle.pieces.proofs.Forms.{alone, piece-kept, piece-changed, measureOf, measured}
 use Rattle.normal.proofs.Steps.{Turn, normal-end, turn, store-on}
 use Rattle.normal.proofs.write.Statement.{statement}
 use Rattle.normal.proofs.write.Tie as tie

@@ -5,7 +5,7 @@ use lib.ListN.{take}
 use lib.Seq.{length-take-le}
 use Rattle.protocol.specs.Normal.{normalPath}
 use Rattle.walk.proofs.Scratch.{front-read}
-use Rattle.decide.proofs.Tallied.{tallied-decides}
+use Rattle.passes.proofs.Tallied.{tallied-decides}
 use borrow.Author.Needs.{needs}
 use Rattle.decide.proofs.answers.answer_in.Statement.{statement}
 use Rattle.decide.proofs.answers.answer_in.Tie as tie

@@ -21,7 +21,7 @@ same-length c = search needs
 returns : tie.Need-returns
 returns c =
     let a = c .before .before .before .before .before .before .before .before .before .before .before .args in
-    rw (asked-nobody (a .file .now) (a .name .now) (a .path .now) (sym (c .before .before .before .before .before .before .is-robots-file .ensures) ∙ c .before .before .before .before .before .if1 .taken)) (c .before .before .fold .ensures)
+    rw (asked-nobody (a .file .now) (a .name .now) (a .path .now) (sym (c .before .before .before .before .before .before .is-robots-file .ensures) ∙ c .before .before .before .before .before .if1 .taken)) (c .before .before .fold .ensures .0)
 
 some-group-names-requires : tie.Need-some-group-names-requires
 some-group-names-requires c κs = search needs
@@ -36,7 +36,7 @@ returns-2 : tie.Need-returns-2
 returns-2 c =
     let a = c .before .before .before .before .before .before .before .before .before .before .before .before .args in
     rw (asked-crawler (a .file .now) (a .name .now) (a .path .now) (sym (c .before .before .before .before .before .before .before .is-robots-file .ensures) ∙ c .before .before .before .before .before .before .if1 .left) (sym (c .before .before .before .before .before .some-group-names .ensures) ∙ c .before .before .before .before .if2 .taken))
-    (c .before .before .fold2 .ensures)
+    (c .before .before .fold2 .ensures .0)
 
 slice-aggregate-fold-2 : tie.Need-slice-aggregate-fold-2
 slice-aggregate-fold-2 c = search needs
@@ -52,7 +52,7 @@ unfolding octets
 returns-3 c =
     let a = c .before .before .before .before .before .before .before .before .before .before .before .before .before .args in
     rw (asked-everyone (a .file .now) (a .name .now) (a .path .now) (sym (c .before .before .before .before .before .before .before .before .is-robots-file .ensures) ∙ c .before .before .before .before .before .before .before .if1 .left) (sym (c .before .before .before .before .before .before .some-group-names .ensures) ∙ c .before .before .before .before .before .if2 .left))
-    (c .before .before .fold3 .ensures)
+    (c .before .before .fold3 .ensures .0)
 
 pub tally-for-spec : {M : Type 1} → statement M
 tally-for-spec =

@@ -1,7 +1,8 @@
 -- `decide::program::output` meets its contract. Assumes nothing.
 use borrow.Author.Needs.{needs}
 use native.Mathlib.Omega.{arith}
-use Rattle.report.proofs.Outputs.{output-refused, output-decided}
+use Rattle.protocol.proofs.Limits.{output-refused}
+use Rattle.decide.proofs.Outputs.{output-decided}
 use Rattle.decide.proofs.program.output.Statement.{statement}
 use Rattle.decide.proofs.program.output.Tie as tie
 

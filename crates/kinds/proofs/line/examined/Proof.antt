@@ -5,7 +5,7 @@ use native.Mathlib.Omega.{arith}
 use lib.ListN.{length, drop}
 use Rattle.lists.specs.Lists.{upTo}
 use Rattle.lists.proofs.Scans.{scan-none, scan-stop, scan-on}
-use Rattle.kinds.specs.Fields.{stop}
+use Rattle.fields.specs.Fields.{stop}
 use Rattle.kinds.proofs.line.examined.Statement.{statement}
 use Rattle.kinds.proofs.line.examined.Tie as tie
 

@@ -2,7 +2,7 @@
 use mathlib.Core.Path.{sym, _∙_}
 use native.Mathlib.Omega.{arith}
 use borrow.Author.Needs.{needs}
-use Rattle.lines.proofs.Trims.{trim-fits}
+use Rattle.text.proofs.Trims.{trim-fits}
 use Rattle.kinds.proofs.Idle.{idle-other, idle-blank, idle-noise}
 use Rattle.kinds.proofs.line.idle_kind.Statement.{statement}
 use Rattle.kinds.proofs.line.idle_kind.Tie as tie

@@ -1,8 +1,8 @@
 -- `kinds::line::is_mark` meets its contract. Assumes nothing.
 use mathlib.Core.Path.{sym}
 use borrow.Author.Tests.{eq-eqb, ne-eqb}
-use Rattle.kinds.specs.Fields.{mark}
-use Rattle.kinds.proofs.Sorts.{past-mark}
+use Rattle.fields.specs.Fields.{mark}
+use Rattle.fields.proofs.Sorts.{past-mark}
 use Rattle.kinds.proofs.line.is_mark.Statement.{statement}
 use Rattle.kinds.proofs.line.is_mark.Tie as tie
 

@@ -1,8 +1,8 @@
 -- `kinds::line::is_stop` meets its contract. Assumes nothing.
 use mathlib.Core.Path.{sym}
 use borrow.Author.Tests.{eq-eqb, ne-eqb}
-use Rattle.kinds.specs.Fields.{stop}
-use Rattle.kinds.proofs.Sorts.{past-stop}
+use Rattle.fields.specs.Fields.{stop}
+use Rattle.fields.proofs.Sorts.{past-stop}
 use Rattle.kinds.proofs.line.is_stop.Statement.{statement}
 use Rattle.kinds.proofs.line.is_stop.Tie as tie
 

@@ -2,8 +2,8 @@
 use mathlib.Core.Path.{sym, ap, _∙_}
 use borrow.Author.Needs.{needs}
 use Rattle.protocol.specs.declared.Kind.{Kind}
-use Rattle.kinds.specs.declared.fields.Field.{Field}
-use Rattle.kinds.proofs.Heads.{head-field, head-inside, kind-head, kind-rule}
+use Rattle.fields.specs.declared.Field.{Field}
+use Rattle.fields.proofs.Heads.{head-field, head-inside, kind-head, kind-rule}
 use Rattle.kinds.proofs.line.kind_at.Statement.{statement}
 use Rattle.kinds.proofs.line.kind_at.Tie as tie
 

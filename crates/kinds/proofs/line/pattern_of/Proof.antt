@@ -8,7 +8,7 @@ use lib.Seq.{length-take-le}
 use borrow.Author.Needs.{needs}
 use Rattle.lists.proofs.Scans.{upTo-fits}
 use Rattle.protocol.specs.Kinds.{patternAt}
-use Rattle.lines.specs.Due.{unusual}
+use Rattle.readable.specs.Due.{unusual}
 use Rattle.kinds.proofs.Fronts.{value-fits, value-of, value-at, front-value, front-formed}
 use Rattle.kinds.proofs.line.pattern_of.Statement.{statement}
 use Rattle.kinds.proofs.line.pattern_of.Tie as tie

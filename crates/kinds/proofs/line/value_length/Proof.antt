@@ -7,7 +7,7 @@ use lib.ListN.{length, take}
 use lib.Seq.{length-take-le}
 use Rattle.lists.proofs.Scans.{take-upTo, upTo-fits}
 use Rattle.protocol.specs.Text.{trimEnd}
-use Rattle.kinds.specs.Fields.{stop}
+use Rattle.fields.specs.Fields.{stop}
 use Rattle.kinds.proofs.line.value_length.Statement.{statement}
 use Rattle.kinds.proofs.line.value_length.Tie as tie
 

@@ -6,7 +6,7 @@ use lib.ListN.{length, drop, drop-of-length-le}
 use borrow.Author.Needs.{needs}
 use Rattle.lists.specs.Lists.{upTo}
 use Rattle.lists.proofs.Scans.{upTo-fits, drop-past, rest-of}
-use Rattle.lines.specs.Parts.{equals}
+use Rattle.text.specs.Parts.{equals}
 use Rattle.protocol.specs.Program.{behind}
 use Rattle.report.proofs.parts.behind.Statement.{statement}
 use Rattle.report.proofs.parts.behind.Tie as tie

@@ -3,7 +3,7 @@ use mathlib.Core.Path.{sym}
 use native.Mathlib.Omega.{arith}
 use lib.Seq.{length-take-le}
 use Rattle.lists.proofs.Scans.{upTo-fits, take-upTo}
-use Rattle.lines.specs.Parts.{equals}
+use Rattle.text.specs.Parts.{equals}
 use Rattle.protocol.specs.Program.{firstPart}
 use Rattle.report.proofs.parts.first_part.Statement.{statement}
 use Rattle.report.proofs.parts.first_part.Tie as tie

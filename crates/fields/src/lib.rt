@@ -1,0 +1,138 @@
+// The field of a line, and where its value begins.
+
+ghost use mathlib.Core.Path.{_≡_};
+ghost use Prim.Native.Nat.{_<_};
+ghost use lib.ListN.{length, drop, getD};
+ghost use Rattle.protocol.specs.Octets.{lowerCase};
+ghost use Rattle.protocol.specs.Text.{begins};
+ghost use Rattle.fields.specs.Fields.{headOf};
+ghost use Rattle.fields.specs.Names.{nameLength, rowOf, beginsName, fieldAt};
+
+// A field that the protocol knows, or any other; a line without a field has the other one.
+pub enum Field {
+    Agent,
+    Allow,
+    Disallow,
+    Other,
+}
+
+// The field of a line, and where its value begins: 0 where the field is the other one.
+pub struct Head {
+    pub field: Field,
+    pub value: usize,
+}
+
+// The names: one to a row, in lower case, zeros behind it.
+const FIELDS: [[u8; 10]; 3] = [*b"user-agent", *b"allow\0\0\0\0\0", *b"disallow\0\0"];
+
+// The row of a field's name. Any other field can have any name: none of a row's octets belong to it.
+fn row_of(field: Field) -> usize
+    ensures { λ r. ⌜ r ≡ rowOf field ⌝ }
+{
+    match field {
+        Field::Agent => 0,
+        Field::Allow => 1,
+        Field::Disallow => 2,
+        Field::Other => 0,
+    }
+}
+
+// The octets of a field's name: a zero can stand in a file too.
+fn name_length(field: Field) -> usize
+    ensures { λ r. ⌜ r ≡ nameLength field ⌝ }
+{
+    match field {
+        Field::Agent => 10,
+        Field::Allow => 5,
+        Field::Disallow => 8,
+        Field::Other => 0,
+    }
+}
+
+// A text begins with the field's name, ASCII case ignored.
+fn begins_name(s: &[u8], field: Field) -> bool
+    ensures { λ r. ⌜ r ≡ beginsName field (now (s .entry)) ⌝ }
+{
+    let row = row_of(field);
+    let size = name_length(field);
+    let name = FIELDS[row];
+    text::same::begins_with(s, &name[..size])
+}
+
+// The first octet of a text, in lower case.
+fn initial(s: &[u8]) -> u8
+    requires { ⌜ 0 < length (now s) ⌝ }
+    ensures { λ r. ⌜ r ≡ lowerCase (getD (now (s .entry)) 0 0) ⌝ }
+{
+    octets::lower_case(s[0])
+}
+
+// The field whose name a text begins with, ASCII case ignored. The first octet tells which name it can be.
+fn field_at(s: &[u8]) -> Field
+    ensures { λ r. ⌜ r ≡ fieldAt (now (s .entry)) ⌝ }
+{
+    if s.len() == 0 {
+        return Field::Other;
+    }
+    let first = initial(s);
+    if first == b'd' {
+        return if begins_name(s, Field::Disallow) {
+            Field::Disallow
+        } else {
+            Field::Other
+        };
+    }
+    if first == b'a' {
+        return if begins_name(s, Field::Allow) {
+            Field::Allow
+        } else {
+            Field::Other
+        };
+    }
+    if first == b'u' {
+        return if begins_name(s, Field::Agent) {
+            Field::Agent
+        } else {
+            Field::Other
+        };
+    }
+    Field::Other
+}
+
+// A colon stands there.
+pub fn colon_at(s: &[u8], n: usize) -> bool
+    ensures { λ r. ⌜ r ≡ begins ":" (drop n (now (s .entry))) ⌝ }
+{
+    if s.len() <= n {
+        return false;
+    }
+    s[n] == b':'
+}
+
+fn no_head() -> Head
+    ensures { λ r. ⌜ r ≡ record { field = Field.Other; value = 0 } ⌝ }
+{
+    Head {
+        field: Field::Other,
+        value: 0,
+    }
+}
+
+// The head of the line that a text begins with.
+pub fn head_of(r: &[u8]) -> Head
+    ensures { λ h. ⌜ h ≡ headOf (now (r .entry)) ⌝ }
+{
+    let start = text::lead(r);
+    let field = field_at(&r[start..]);
+    if let Field::Other = field {
+        return no_head();
+    }
+    let after = start + name_length(field);
+    let colon = after + text::lead(&r[after..]);
+    if !colon_at(r, colon) {
+        return no_head();
+    }
+    let behind = colon + 1;
+    let value = behind + text::lead(&r[behind..]);
+    Head { field, value }
+}

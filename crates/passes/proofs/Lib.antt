@@ -1,0 +1,4 @@
+pub mod Groups
+mod Heads
+pub mod Spans
+pub mod Tallied

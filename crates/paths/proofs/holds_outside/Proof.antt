@@ -1,0 +1,63 @@
+-- `paths::holds_outside` meets its contract: what is left holds such an octet if and only if the whole does. Assumes nothing.
+use Prim.Native.Nat.{_-_, _≤_}
+use mathlib.Core.Path.{_≡_, refl, sym, _∙_}
+use native.Mathlib.Omega.{arith}
+use lib.ListN.{length, drop}
+use Rattle.lists.specs.Lists.{any}
+use Rattle.lists.proofs.Tests.{any-end, any-here, any-on}
+use Rattle.protocol.specs.Refusals.{outsidePath}
+use Rattle.paths.proofs.holds_outside.Statement.{statement}
+use Rattle.paths.proofs.holds_outside.Tie as tie
+
+abbrev Inv-loop : tie.InvT-loop
+Inv-loop path i₀ i = (i ≤ length path) × (any outsidePath (drop i path) ≡ any outsidePath path)
+
+abbrev μ-loop : tie.MeasureT-loop
+μ-loop path i₀ i = length path - i
+
+loop-holds : tie.Need-loop-holds Inv-loop μ-loop
+loop-holds c = (omega arith, refl)
+
+shared-slice-read-is-outside-path : tie.Need-shared-slice-read-is-outside-path Inv-loop μ-loop
+shared-slice-read-is-outside-path c = omega arith
+
+is-outside-path-requires : tie.Need-is-outside-path-requires Inv-loop μ-loop
+is-outside-path-requires c κs = tt
+
+returns : tie.Need-returns Inv-loop μ-loop
+returns c =
+    let s = c .before .before .before .before in
+    let e = sym (c .before .is-outside-path .ensures) ∙ c .if1 .taken in
+    sym (any-here outsidePath (s .before .before .args .path .now) (s .loop .i) 0 (omega arith) e) ∙ s .loop .inv .1
+
+add-i : tie.Need-add-i Inv-loop μ-loop
+add-i c = omega arith
+
+loop-less : tie.Need-loop-less Inv-loop μ-loop
+loop-less c = omega arith
+
+loop-again : tie.Need-loop-again Inv-loop μ-loop
+loop-again c =
+    let s = c .before .before .before .before in
+    let e = sym (c .before .is-outside-path .ensures) ∙ c .if1 .left in
+    (omega arith, sym (any-on outsidePath (s .before .before .args .path .now) (s .loop .i) 0 (omega arith) e) ∙ s .loop .inv .1)
+
+returns-2 : tie.Need-returns-2 Inv-loop μ-loop
+returns-2 c =
+    let s = c .before in
+    sym (any-end outsidePath (s .before .before .args .path .now) (s .loop .i) (omega arith)) ∙ s .loop .inv .1
+
+pub holds-outside-spec : {M : Type 1} → statement M
+holds-outside-spec =
+    tie.close
+    (tie.spec
+    Inv-loop
+    μ-loop
+    loop-holds
+    shared-slice-read-is-outside-path
+    is-outside-path-requires
+    returns
+    add-i
+    loop-less
+    loop-again
+    returns-2)

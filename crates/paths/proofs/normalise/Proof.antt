@@ -1,0 +1,40 @@
+-- `paths::normalise` meets its contract. Assumes nothing.
+use mathlib.Core.Path.{refl, sym, _∙_}
+use lib.ListN.{length}
+use borrow.Author.Needs.{needs}
+use Rattle.protocol.specs.Normal.{normalPath}
+use Rattle.protocol.specs.Answers.{normaliseOf, normaliseBuffer}
+use Rattle.paths.proofs.Refused.{refused-writes, answered-writes, room-known}
+use Rattle.paths.proofs.normalise.Statement.{statement}
+use Rattle.paths.proofs.normalise.Tie as tie
+
+normalise-refusal-requires : tie.Need-normalise-refusal-requires
+normalise-refusal-requires c κs = search needs
+
+returns : tie.Need-returns
+unfolding normaliseOf normaliseBuffer
+returns c =
+    let a = c .before .before .before .before .args in
+    let e = c .before .normalise-refusal .ensures in
+    rw (refused-writes (a .path .now) (a .buffer .now) (λ z. c .if1 .taken (e ∙ z)), ← e) (refl, refl)
+
+write-requires : tie.Need-write-requires
+unfolding normalPath
+write-requires c κs =
+    let a = c .before .before .before .before .before .args in
+    room-known (length (a .buffer .now)) (a .path .now) (sym (c .before .before .normalise-refusal .ensures) ∙ c .before .if1 .left)
+
+same-length : tie.Need-same-length
+same-length c = search needs
+
+returns-2 : tie.Need-returns-2
+unfolding normaliseOf normaliseBuffer normalPath
+returns-2 c =
+    let a = c .before .before .before .before .before .before .before .before .args in
+    let e = sym (c .before .before .before .before .before .normalise-refusal .ensures) ∙ c .before .before .before .before .if1 .left in
+    let w = c .before .before .write .ensures in
+    rw (answered-writes (a .path .now) (a .buffer .now) e, e, w .0, w .1) (refl, refl)
+
+pub normalise-spec : {M : Type 1} → statement M
+normalise-spec =
+    tie.close (tie.spec normalise-refusal-requires returns write-requires same-length returns-2)

@@ -1,0 +1,73 @@
+-- `readable::well_formed` meets its contract: what is due and the octets that are left give the whole text's answer. Assumes nothing.
+use Prim.Native.Nat.{ℕ, _+_, _-_}
+use mathlib.Core.Path.{_≡_, sym, ap, _∙_}
+use mathlib.Core.List.{List, []}
+use native.Mathlib.Omega.{arith}
+use lib.ListN.{length, drop, getD}
+use Rattle.lists.proofs.Scans.{drop-one}
+use Rattle.protocol.specs.Readable.{Range, wellFormed}
+use Rattle.readable.specs.Due.{dueRanges}
+use Rattle.readable.proofs.Characters.{well-formed-past, well-formed-end, well-formed-front}
+use Rattle.readable.proofs.well_formed.Statement.{statement}
+use Rattle.readable.proofs.well_formed.Tie as tie
+
+abbrev Inv-loop : tie.InvT-loop
+Inv-loop s due₀ i₀ due i = wellFormed (dueRanges due) (drop i s) ≡ wellFormed [] s
+
+abbrev μ-loop : tie.MeasureT-loop
+μ-loop s due₀ i₀ due i = length s - i
+
+due-octets-requires : tie.Need-due-octets-requires Inv-loop μ-loop
+due-octets-requires c κs = tt
+
+ordinary-front-requires : tie.Need-ordinary-front-requires Inv-loop μ-loop
+ordinary-front-requires c κs = tt
+
+loop-holds : tie.Need-loop-holds Inv-loop μ-loop
+loop-holds c =
+    rw (c .before .due-octets .ensures, c .ordinary-front .ensures) (well-formed-front (c .before .before .before .args .s .now))
+
+shared-slice-read-due-past : tie.Need-shared-slice-read-due-past Inv-loop μ-loop
+shared-slice-read-due-past c = omega arith
+
+due-past-requires : tie.Need-due-past-requires Inv-loop μ-loop
+due-past-requires c κs = tt
+
+add-i : tie.Need-add-i Inv-loop μ-loop
+add-i c = omega arith
+
+loop-less : tie.Need-loop-less Inv-loop μ-loop
+loop-less c = omega arith
+
+loop-again : tie.Need-loop-again Inv-loop μ-loop
+loop-again c =
+    let s = c .before .before .before .before .before .before .before .args .s .now in
+    let i = c .before .before .before .loop .i in
+    let due = c .before .before .before .loop .due in
+    ap (λ (d : List Range). wellFormed d (drop (i + 1) s)) (c .due-past .ensures)
+    ∙ sym (well-formed-past (dueRanges due) (getD s i 0) (drop (i + 1) s))
+    ∙ ap (λ (l : List ℕ). wellFormed (dueRanges due) l) (sym (drop-one s i 0 (omega arith)))
+    ∙ c .before .before .before .loop .inv
+
+returns : tie.Need-returns Inv-loop μ-loop
+returns c =
+    let s = c .before .before .before .before .before .before .args .s .now in
+    let i = c .before .before .loop .i in
+    let due = c .before .before .loop .due in
+    sym (well-formed-end (due .low) (due .high) (due .more) i s (omega arith)) ∙ c .before .before .loop .inv
+
+pub well-formed-spec : {M : Type 1} → statement M
+well-formed-spec =
+    tie.close
+    (tie.spec
+    Inv-loop
+    μ-loop
+    due-octets-requires
+    ordinary-front-requires
+    loop-holds
+    shared-slice-read-due-past
+    due-past-requires
+    add-i
+    loop-less
+    loop-again
+    returns)

@@ -1,0 +1,156 @@
+// Whether the value of an agent line, or the pattern of a rule line, is readable.
+
+ghost use mathlib.Core.Path.{_≡_};
+ghost use mathlib.Core.List.{[]};
+ghost use lib.ListN.{length};
+ghost use Rattle.lists.specs.Lists.{all, upTo, same};
+ghost use Rattle.protocol.specs.Octets.{token};
+ghost use Rattle.protocol.specs.Readable.{everyone, isName, readableAgent, characterForms, dueAfter, wellFormed, patternStart, readablePattern};
+ghost use Rattle.readable.specs.Due.{dueRanges, duePast, ordinary, unusual};
+
+// The octets that a character still lacks: `more` of them, the next from `low` to `high`, those behind it UTF8-tails.
+struct Due {
+    low: u8,
+    high: u8,
+    more: usize,
+}
+
+fn due_octets(low: u8, high: u8, more: usize) -> Due
+    ensures { λ r. ⌜ r ≡ record { low = low; high = high; more = more } ⌝ }
+{
+    Due { low, high, more }
+}
+
+// No octet is from 1 to 0: nothing makes it whole.
+fn never_due() -> Due
+    ensures { λ r. ⌜ r ≡ record { low = 1; high = 0; more = 1 } ⌝ }
+{
+    due_octets(1, 0, 1)
+}
+
+// After the first octet of a character: RFC 9309's UTF8-char-noctl.
+fn due_after(x: u8) -> Due
+    ensures { λ r. ⌜ dueRanges r ≡ dueAfter x characterForms ⌝ }
+{
+    match x {
+        0x21..=0x22 => due_octets(0, 0, 0),
+        0x24..=0x7F => due_octets(0, 0, 0),
+        0xC2..=0xDF => due_octets(0x80, 0xBF, 1),
+        0xE0 => due_octets(0xA0, 0xBF, 2),
+        0xE1..=0xEC => due_octets(0x80, 0xBF, 2),
+        0xED => due_octets(0x80, 0x9F, 2),
+        0xEE..=0xEF => due_octets(0x80, 0xBF, 2),
+        0xF0 => due_octets(0x90, 0xBF, 3),
+        0xF1..=0xF3 => due_octets(0x80, 0xBF, 3),
+        0xF4 => due_octets(0x80, 0x8F, 3),
+        _ => never_due(),
+    }
+}
+
+fn is_ordinary(x: u8) -> bool
+    ensures { λ r. ⌜ r ≡ ordinary x ⌝ }
+{
+    if x < 0x24 {
+        return false;
+    }
+    x <= 0x7F
+}
+
+// After one octet more.
+fn due_past(due: Due, x: u8) -> Due
+    ensures { λ r. ⌜ dueRanges r ≡ duePast (dueRanges due) x ⌝ }
+{
+    if due.more == 0 {
+        if is_ordinary(x) {
+            return due;
+        }
+        return due_after(x);
+    }
+    if x < due.low {
+        return never_due();
+    }
+    if due.high < x {
+        return never_due();
+    }
+    due_octets(0x80, 0xBF, due.more - 1)
+}
+
+// How many ordinary octets stand in front.
+pub fn ordinary_front(s: &[u8]) -> usize
+    ensures { λ r. ⌜ r ≡ length (upTo unusual (now (s .entry))) ⌝ }
+{
+    text::seek(s, 0, 0x24, 0x7F, false)
+}
+
+// Whole characters only.
+pub fn well_formed(s: &[u8]) -> bool
+    ensures { λ r. ⌜ r ≡ wellFormed [] (now (s .entry)) ⌝ }
+{
+    let mut due = due_octets(0, 0, 0);
+    let mut i = ordinary_front(s);
+    while i < s.len() {
+        due = due_past(due, s[i]);
+        i += 1;
+    }
+    due.more == 0
+}
+
+fn pattern_start(p: &[u8]) -> bool
+    ensures { λ r. ⌜ r ≡ patternStart (now (p .entry)) ⌝ }
+{
+    if p.len() == 0 {
+        return false;
+    }
+    p[0] == b'/'
+}
+
+pub fn readable_pattern(p: &[u8]) -> bool
+    ensures { λ r. ⌜ r ≡ readablePattern (now (p .entry)) ⌝ }
+{
+    if pattern_start(p) {
+        return well_formed(p);
+    }
+    false
+}
+
+// Octets of a crawler's name only, or none.
+pub fn all_token(s: &[u8]) -> bool
+    ensures { λ r. ⌜ r ≡ all token (now (s .entry)) ⌝ }
+{
+    let mut i = 0;
+    while i < s.len() {
+        if !octets::is_token(s[i]) {
+            return false;
+        }
+        i += 1;
+    }
+    true
+}
+
+fn is_name(v: &[u8]) -> bool
+    ensures { λ r. ⌜ r ≡ isName (now (v .entry)) ⌝ }
+{
+    if v.len() == 0 {
+        return false;
+    }
+    all_token(v)
+}
+
+// The value "*".
+fn is_everyone(v: &[u8]) -> bool
+    ensures { λ r. ⌜ r ≡ same (now (v .entry)) everyone ⌝ }
+{
+    if v.len() != 1 {
+        return false;
+    }
+    v[0] == b'*'
+}
+
+pub fn readable_agent(v: &[u8]) -> bool
+    ensures { λ r. ⌜ r ≡ readableAgent (now (v .entry)) ⌝ }
+{
+    if is_everyone(v) {
+        return true;
+    }
+    is_name(v)
+}

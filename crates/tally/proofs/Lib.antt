@@ -1,0 +1,4 @@
+pub mod Bounds
+pub mod Naming
+mod Stepping
+mod Walking

@@ -1,0 +1,3 @@
+mod Seeks
+pub mod Comparing
+pub mod Trims

@@ -1,0 +1,76 @@
+-- `text::same::begins_with` meets its contract: what is left of the text's front and of the word gives the whole comparison. Assumes nothing.
+use Prim.Native.Nat.{_-_, _≤_}
+use mathlib.Core.Path.{_≡_, refl, sym, _∙_}
+use native.Mathlib.Omega.{arith}
+use lib.ListN.{length, take}
+use Rattle.protocol.specs.Text.{sameIgnoringCase}
+use Rattle.text.proofs.Comparing.{beginsFrom, case-short, case-other, case-on, case-end}
+use Rattle.text.proofs.same.begins_with.Statement.{statement}
+use Rattle.text.proofs.same.begins_with.Tie as tie
+
+abbrev Inv-loop : tie.InvT-loop
+Inv-loop s word i₀ i = (length word ≤ length s) × (beginsFrom i s word ≡ sameIgnoringCase (take (length word) s) word)
+
+abbrev μ-loop : tie.MeasureT-loop
+μ-loop s word i₀ i = length word - i
+
+returns : tie.Need-returns Inv-loop μ-loop
+returns c = let a = c .before .before .before .args in case-short (a .s .now) (a .word .now) (c .if1 .taken)
+
+loop-holds : tie.Need-loop-holds Inv-loop μ-loop
+unfolding sameIgnoringCase
+loop-holds c = (omega arith, refl)
+
+shared-slice-read-lower-case : tie.Need-shared-slice-read-lower-case Inv-loop μ-loop
+shared-slice-read-lower-case c = omega arith
+
+lower-case-requires : tie.Need-lower-case-requires Inv-loop μ-loop
+lower-case-requires c κs = tt
+
+shared-slice-read-lower-case-2 : tie.Need-shared-slice-read-lower-case-2 Inv-loop μ-loop
+shared-slice-read-lower-case-2 c = omega arith
+
+lower-case-requires-2 : tie.Need-lower-case-requires-2 Inv-loop μ-loop
+lower-case-requires-2 c κs = tt
+
+returns-2 : tie.Need-returns-2 Inv-loop μ-loop
+returns-2 c =
+    let a = c .before .before .before .before .before .before .before .before .before .before .args in
+    let l = c .before .before .before .before .before .before .loop in
+    sym (case-other (a .s .now) (a .word .now) (l .inv .0) (l .i) (omega arith) (λ e. c .if2 .taken (c .before .before .before .lower-case .ensures ∙ e ∙ sym (c .before .lower-case2 .ensures)))) ∙ l .inv .1
+
+add-i : tie.Need-add-i Inv-loop μ-loop
+add-i c = omega arith
+
+loop-less : tie.Need-loop-less Inv-loop μ-loop
+loop-less c = omega arith
+
+loop-again : tie.Need-loop-again Inv-loop μ-loop
+loop-again c =
+    let a = c .before .before .before .before .before .before .before .before .before .before .args in
+    let l = c .before .before .before .before .before .before .loop in
+    (l .inv .0, sym (case-on (a .s .now) (a .word .now) (l .inv .0) (l .i) (omega arith) (sym (c .before .before .before .lower-case .ensures) ∙ c .if2 .left ∙ c .before .lower-case2 .ensures)) ∙ l .inv .1)
+
+returns-3 : tie.Need-returns-3 Inv-loop μ-loop
+returns-3 c =
+    let a = c .before .before .before .before .before .args in
+    let l = c .before .loop in
+    sym (case-end (a .s .now) (a .word .now) (l .inv .0) (l .i) (omega arith)) ∙ l .inv .1
+
+pub begins-with-spec : {M : Type 1} → statement M
+begins-with-spec =
+    tie.close
+    (tie.spec
+    Inv-loop
+    μ-loop
+    returns
+    loop-holds
+    shared-slice-read-lower-case
+    lower-case-requires
+    shared-slice-read-lower-case-2
+    lower-case-requires-2
+    returns-2
+    add-i
+    loop-less
+    loop-again
+    returns-3)

@@ -1,0 +1,73 @@
+-- `text::trimmed_length` meets its contract: what is left is the whole without some spaces and tabs at its end. Assumes nothing.
+use Prim.Native.Nat.{ℕ, _≤_}
+use mathlib.Core.Path.{_≡_, sym, ap, _∙_}
+use mathlib.Core.List.{List}
+use native.Mathlib.Omega.{arith}
+use lib.ListN.{length, take}
+use lib.Seq.{take-all}
+use borrow.Author.Tests.{not-true, not-false}
+use Rattle.protocol.specs.Text.{trimEnd}
+use Rattle.text.proofs.Trims.{end-blank, end-solid, end-none}
+use Rattle.text.proofs.trimmed_length.Statement.{statement}
+use Rattle.text.proofs.trimmed_length.Tie as tie
+
+abbrev Inv-loop : tie.InvT-loop
+Inv-loop s n₀ n = (n ≤ length s) × (trimEnd (take n s) ≡ trimEnd s)
+
+abbrev μ-loop : tie.MeasureT-loop
+μ-loop s n₀ n = n
+
+loop-holds : tie.Need-loop-holds Inv-loop μ-loop
+loop-holds c = (omega arith, ap trimEnd (take-all (length (c .before .args .s .now)) (c .before .args .s .now) (omega arith)))
+
+sub-is-blank : tie.Need-sub-is-blank Inv-loop μ-loop
+sub-is-blank c = omega arith
+
+shared-slice-read-is-blank : tie.Need-shared-slice-read-is-blank Inv-loop μ-loop
+shared-slice-read-is-blank c = omega arith
+
+is-blank-requires : tie.Need-is-blank-requires Inv-loop μ-loop
+is-blank-requires c κs = tt
+
+returns : tie.Need-returns Inv-loop μ-loop
+returns c =
+    let s = c .before .before .before .before in
+    let text = s .before .before .args .s .now in
+    let solid = sym (c .before .is-blank .ensures) ∙ not-true (c .before .is-blank .result) (c .if1 .taken) in
+    sym (ap length (sym (s .loop .inv .1)) ∙ end-solid text (s .loop .n) (omega arith) (omega arith) solid)
+
+sub-n : tie.Need-sub-n Inv-loop μ-loop
+sub-n c = omega arith
+
+loop-less : tie.Need-loop-less Inv-loop μ-loop
+loop-less c = omega arith
+
+loop-again : tie.Need-loop-again Inv-loop μ-loop
+loop-again c =
+    let s = c .before .before .before .before in
+    let text = s .before .before .args .s .now in
+    let blanks = sym (c .before .is-blank .ensures) ∙ not-false (c .before .is-blank .result) (c .if1 .left) in
+    (omega arith, end-blank text (s .loop .n) (omega arith) (omega arith) blanks ∙ s .loop .inv .1)
+
+returns-2 : tie.Need-returns-2 Inv-loop μ-loop
+returns-2 c =
+    let s = c .before in
+    let text : List ℕ = s .before .before .args .s .now in
+    let none : s .loop .n ≡ 0 = omega arith in
+    none ∙ sym (ap length (sym (s .loop .inv .1) ∙ ap (λ (n : ℕ). trimEnd (take n text)) none ∙ end-none text))
+
+pub trimmed-length-spec : {M : Type 1} → statement M
+trimmed-length-spec =
+    tie.close
+    (tie.spec
+    Inv-loop
+    μ-loop
+    loop-holds
+    sub-is-blank
+    shared-slice-read-is-blank
+    is-blank-requires
+    returns
+    sub-n
+    loop-less
+    loop-again
+    returns-2)

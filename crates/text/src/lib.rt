@@ -1,0 +1,123 @@
+// Parts of a text: where an octet stands, and where spaces and tabs at the ends stop.
+
+pub mod same; // same.rt: equality ignoring ASCII case
+
+ghost use mathlib.Core.Path.{_≡_};
+ghost use Prim.Native.Nat.{_+_};
+ghost use lib.ListN.{length, drop};
+ghost use Rattle.lists.specs.Lists.{upTo};
+ghost use Rattle.protocol.specs.Text.{lead, trimEnd};
+ghost use Rattle.protocol.specs.Lines.{lineText};
+ghost use Rattle.text.specs.Parts.{among, equals};
+
+// An octet from low to high, or any other.
+fn is_among(x: u8, low: u8, high: u8, inside: bool) -> bool
+    ensures { λ r. ⌜ r ≡ among low high inside x ⌝ }
+{
+    let is_within = low <= x && x <= high;
+    is_within == inside
+}
+
+// The octets of a block of 64 in front of the first of that sort. All are looked at, so that the compiler can look at many at a time.
+fn front_of_block(s: &[u8], low: u8, high: u8, inside: bool) -> usize
+    requires { ⌜ length (now s) ≡ 64 ⌝ }
+    ensures { λ r. ⌜ r ≡ length (upTo (among low high inside) (now (s .entry))) ⌝ }
+{
+    let mut first = 64u8;
+    let mut i = 0u8;
+    while i < 64 {
+        let here = if is_among(s[i as usize], low, high, inside) {
+            i
+        } else {
+            64
+        };
+        if here < first {
+            first = here;
+        }
+        i += 1;
+    }
+    first as usize
+}
+
+// A place from which the search goes on: behind whole blocks without an octet of that sort, or at the first one.
+fn past_blocks(s: &[u8], from: usize, low: u8, high: u8, inside: bool) -> usize
+    ensures { λ r. ⌜ r + length (upTo (among low high inside) (drop r (now (s .entry)))) ≡ from + length (upTo (among low high inside) (drop from (now (s .entry)))) ⌝ }
+{
+    if s.len() < 64 {
+        return from;
+    }
+    let last = s.len() - 64;
+    let mut i = from;
+    while i <= last {
+        let end = i + 64;
+        let front = front_of_block(&s[i..end], low, high, inside);
+        if front < 64 {
+            return i + front;
+        }
+        i = end;
+    }
+    i
+}
+
+// The place of the first octet of that sort from `from` on, or the text's end.
+pub fn seek(s: &[u8], from: usize, low: u8, high: u8, inside: bool) -> usize
+    ensures { λ r. ⌜ r ≡ from + length (upTo (among low high inside) (drop from (now (s .entry)))) ⌝ }
+{
+    let mut i = past_blocks(s, from, low, high, inside);
+    while i < s.len() {
+        if is_among(s[i], low, high, inside) {
+            return i;
+        }
+        i += 1;
+    }
+    i
+}
+
+// The octets in front of the first x: all of them where there is none.
+pub fn find(s: &[u8], x: u8) -> usize
+    ensures { λ r. ⌜ r ≡ length (upTo (equals x) (now (s .entry))) ⌝ }
+{
+    seek(s, 0, x, x, true)
+}
+
+// The place of the first CR or LF from `from` on, or the text's end.
+pub fn line_end(s: &[u8], from: usize) -> usize
+    ensures { λ r. ⌜ r ≡ from + length (lineText (drop from (now (s .entry)))) ⌝ }
+{
+    let mut i = from;
+    while i < s.len() {
+        if octets::is_line_end(s[i]) {
+            return i;
+        }
+        i = seek(s, i + 1, 0, b'\r', true);
+    }
+    i
+}
+
+// The number of spaces and tabs at the front.
+pub fn lead(s: &[u8]) -> usize
+    ensures { λ r. ⌜ r ≡ lead (now (s .entry)) ⌝ }
+{
+    let mut i = 0;
+    while i < s.len() {
+        if !octets::is_blank(s[i]) {
+            return i;
+        }
+        i += 1;
+    }
+    i
+}
+
+// The octets that are left without spaces and tabs at the end.
+pub fn trimmed_length(s: &[u8]) -> usize
+    ensures { λ r. ⌜ r ≡ length (trimEnd (now (s .entry))) ⌝ }
+{
+    let mut n = s.len();
+    while 0 < n {
+        if !octets::is_blank(s[n - 1]) {
+            return n;
+        }
+        n -= 1;
+    }
+    n
+}

@@ -1,0 +1,47 @@
+-- `walk::walk_pattern` meets its contract: the count fits, since it is at most the weight times the path's length. Assumes nothing.
+use mathlib.Core.Path.{_∙_}
+use native.Mathlib.Omega.{arith}
+use borrow.Author.Needs.{needs}
+use Rattle.protocol.specs.Pattern.{shapeOf}
+use Rattle.protocol.proofs.Counted.{walk-bound}
+use Rattle.normal.proofs.Marks.{text-front}
+use Rattle.walk.proofs.Marked.{pattern-walk, pattern-scratch}
+use Rattle.walk.proofs.walk_pattern.Statement.{statement}
+use Rattle.walk.proofs.walk_pattern.Tie as tie
+
+text-length-requires : tie.Need-text-length-requires
+text-length-requires c κs = search needs
+
+slice-aggregate-walk-text : tie.Need-slice-aggregate-walk-text
+slice-aggregate-walk-text c =
+    let pattern = c .before .before .before .before .before .args .pattern .now in
+    rw (c .before .text-length .ensures, text-front pattern)
+
+walk-text-requires : tie.Need-walk-text-requires
+walk-text-requires c κs =
+    let p = c .before .before .before .before .before .before in
+    let a = p .args in
+    let l = c .before .before .text-length in
+    (p .pre .0, rw (pattern-walk (a .pattern .now) (a .path .now) (l .result) (l .ensures)) (omega (arith, p .pre .1, walk-bound (shapeOf (a .pattern .now)) (a .path .now))))
+
+same-length : tie.Need-same-length
+same-length c = search needs
+
+returns : tie.Need-returns
+returns c =
+    let w = c .before .before in
+    let a = w .before .before .before .before .before .before .before .args in
+    let l = w .before .before .before .text-length in (
+      w .walk-text .ensures .0 ∙ pattern-walk (a .pattern .now) (a .path .now) (l .result) (l .ensures),
+      w .walk-text .ensures .1 ∙ pattern-scratch (a .pattern .now) (a .path .now) (l .result) (l .ensures) (a .scratch .now),
+    )
+
+pub walk-pattern-spec : {M : Type 1} → statement M
+walk-pattern-spec =
+    tie.close
+    (tie.spec
+    text-length-requires
+    slice-aggregate-walk-text
+    walk-text-requires
+    same-length
+    returns)
