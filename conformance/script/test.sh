@@ -238,6 +238,18 @@ complains 'an empty word as the file' 'give it a file that can be read' "$ask" a
 complains 'a folder as the file' 'give it a file that can be read' "$ask" a / "$room"
 complains 'a folder as standard input' 'give it a file that can be read' "$ask" a / <"$room"
 complains 'no standard input' 'standard input is closed' "$ask" a / <&-
+
+# runs a command with a socket as its standard input, from which a part of a file can be read before it is reset
+reset() {
+    python3 -B -c '
+import socket, subprocess, sys
+ours, theirs = socket.socketpair()
+ours.send(b"x")
+theirs.send(b"user-agent: *\n")
+theirs.close()
+sys.exit(subprocess.run(sys.argv[1:], stdin=ours).returncode)' "$@"
+}
+complains 'a standard input that is reset' 'give it a file that can be read' reset "$ask" a /
 # root may open every file, but not even root can read this one's first octet
 complains 'a file that opens, and cannot be read' 'give it a file that can be read' "$ask" a / /proc/self/mem
 complains 'no temporary file' 'set TMPDIR' env TMPDIR="$room/missing" "$ask" a / "$room/empty"

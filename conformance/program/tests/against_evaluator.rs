@@ -292,11 +292,3 @@ fn the_input_in_pieces_and_as_a_file() {
     }
     fs::remove_file(&name).expect("the file can be removed");
 }
-
-/// An input that can't be read isn't taken for an empty one, nor for what was
-/// read of it: no line is written. A folder can be opened, but not read.
-#[test]
-fn an_input_that_cannot_be_read() {
-    let output = program::run_on_file(Path::new(env!("CARGO_MANIFEST_DIR")));
-    assert_eq!(String::from_utf8_lossy(&output.stdout), "");
-}
