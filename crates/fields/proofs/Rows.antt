@@ -9,7 +9,7 @@ use Rattle.protocol.specs.Text.{octets, sameIgnoringCase}
 use Rattle.fields.specs.declared.Field.{Field}
 use Rattle.fields.specs.Names.{nameOf, nameLength, rowOf, beginsName}
 
--- FIELDS of src/lib.rt: each name, and zeros behind it
+-- FIELDS of the crate protocol: each name, and zeros behind it
 abbrev pub fields : List (List ℕ)
 fields = map (λ (name : String). octets name ++ replicate (10 - length (octets name)) 0) ("user-agent" ∷ "allow" ∷ "disallow" ∷ [])
 

@@ -3,10 +3,13 @@
 ghost use mathlib.Core.Path.{_≡_};
 ghost use Prim.Native.Nat.{_<_};
 ghost use lib.ListN.{length, drop, getD};
+ghost use Rattle.lists.specs.Lists.{upTo};
 ghost use Rattle.protocol.specs.Octets.{lowerCase};
 ghost use Rattle.protocol.specs.Text.{begins};
+ghost use Rattle.text.specs.Parts.{equals};
 ghost use Rattle.fields.specs.Fields.{headOf};
 ghost use Rattle.fields.specs.Names.{nameLength, rowOf, beginsName, fieldAt};
+use protocol::FIELDS;
 
 // A field that the protocol knows, or any other; a line without a field has the other one.
 pub enum Field {
@@ -22,9 +25,6 @@ pub struct Head {
     pub value: usize,
 }
 
-// The names: one to a row, in lower case, zeros behind it.
-const FIELDS: [[u8; 10]; 3] = [*b"user-agent", *b"allow\0\0\0\0\0", *b"disallow\0\0"];
-
 // The row of a field's name. Any other field can have any name: none of a row's octets belong to it.
 fn row_of(field: Field) -> usize
     ensures { λ r. ⌜ r ≡ rowOf field ⌝ }
@@ -37,14 +37,28 @@ fn row_of(field: Field) -> usize
     }
 }
 
+// The octets of a row in front of its zeros.
+fn row_length(row: [u8; 10]) -> usize
+    ensures { λ r. ⌜ r ≡ length (upTo (equals 0) row) ⌝ }
+{
+    let mut n = 0;
+    while n < 10 {
+        if row[n] == 0 {
+            return n;
+        }
+        n += 1;
+    }
+    n
+}
+
 // The octets of a field's name: a zero can stand in a file too.
 fn name_length(field: Field) -> usize
     ensures { λ r. ⌜ r ≡ nameLength field ⌝ }
 {
     match field {
-        Field::Agent => 10,
-        Field::Allow => 5,
-        Field::Disallow => 8,
+        Field::Agent => row_length(FIELDS[0]),
+        Field::Allow => row_length(FIELDS[1]),
+        Field::Disallow => row_length(FIELDS[2]),
         Field::Other => 0,
     }
 }
@@ -75,21 +89,21 @@ fn field_at(s: &[u8]) -> Field
         return Field::Other;
     }
     let first = initial(s);
-    if first == b'd' {
+    if first == FIELDS[2][0] {
         return if begins_name(s, Field::Disallow) {
             Field::Disallow
         } else {
             Field::Other
         };
     }
-    if first == b'a' {
+    if first == FIELDS[1][0] {
         return if begins_name(s, Field::Allow) {
             Field::Allow
         } else {
             Field::Other
         };
     }
-    if first == b'u' {
+    if first == FIELDS[0][0] {
         return if begins_name(s, Field::Agent) {
             Field::Agent
         } else {

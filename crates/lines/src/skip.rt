@@ -5,6 +5,7 @@ ghost use mathlib.Core.Bool.{true};
 ghost use Prim.Native.Nat.{_+_, _≤_};
 ghost use lib.ListN.{length, take, drop};
 ghost use Rattle.lines.specs.Skips.{entryOctet, quiet, endings};
+use protocol::FIELDS;
 
 // What was passed over: so many octets, which close so many lines.
 pub struct Passed {
@@ -17,7 +18,8 @@ fn may_begin(x: u8, rules: bool) -> bool
     ensures { λ r. ⌜ r ≡ entryOctet rules x ⌝ }
 {
     let c = x | 32;
-    ((c == b'u') | (x == b' ') | (x == b'\t')) | (rules & ((c == b'a') | (c == b'd')))
+    ((c == FIELDS[0][0]) | (x == b' ') | (x == b'\t'))
+        | (rules & ((c == FIELDS[1][0]) | (c == FIELDS[2][0])))
 }
 
 // No such line begins behind any of the first 64 octets.

@@ -1,4 +1,4 @@
-// The types of document 01's answers. What each answer is, for every input, is defined in specs/.
+// The types of document 01's answers, and the names of its fields. What each answer is, for every input, is defined in specs/.
 
 // The number of a line, counted from 1; 0 stands for no line.
 pub struct LineNumber {
@@ -82,3 +82,6 @@ pub enum LineAnswer {
     Refused(usize),
     Kind(Kind),
 }
+
+// The names of the fields that the protocol knows: one to a row, in lower case, zeros behind it.
+pub const FIELDS: [[u8; 10]; 3] = [*b"user-agent", *b"allow\0\0\0\0\0", *b"disallow\0\0"];
