@@ -6,7 +6,7 @@ ghost use lib.ListN.{length};
 ghost use Rattle.protocol.specs.Lines.{linesOf};
 ghost use Rattle.protocol.specs.Entries.{entries};
 ghost use Rattle.protocol.specs.Normal.{normalPath};
-ghost use Rattle.protocol.specs.Refusals.{badName, decideRefusal};
+ghost use Rattle.protocol.specs.Refusals.{decideRefusal};
 ghost use Rattle.protocol.specs.Decision.{answered};
 ghost use Rattle.protocol.specs.Answers.{decide};
 ghost use Rattle.tally.specs.Steps.{noTally};
@@ -14,25 +14,13 @@ ghost use Rattle.passes.specs.Tallies.{tallied, asked};
 use protocol::Decision;
 use tally::Tally;
 
-fn is_bad_name(name: &[u8]) -> bool
-    ensures { λ r. ⌜ r ≡ badName (now (name .entry)) .given ⌝ }
-{
-    if name.len() == 0 {
-        return true;
-    }
-    if 64 < name.len() {
-        return true;
-    }
-    !readable::all_token(name)
-}
-
 pub fn decide_refusal(file: &[u8], name: &[u8], path: &[u8]) -> usize
     ensures { λ r. ⌜ r ≡ decideRefusal (now (file .entry)) (now (name .entry)) (now (path .entry)) ⌝ }
 {
     if 512000 < file.len() {
         return 1;
     }
-    if is_bad_name(name) {
+    if readable::is_bad_name(name) {
         return 2;
     }
     paths::path_refusal(path)

@@ -1,6 +1,6 @@
 -- The answer on one line, by its refusal. Assumes nothing.
-use Prim.Native.Nat.{ℕ, zero, suc, _≤_, _<_}
-use mathlib.Core.Path.{_≡_, refl, _∙_}
+use Prim.Native.Nat.{ℕ, _≤_, _<_}
+use mathlib.Core.Path.{_≡_, sym, _∙_}
 use mathlib.Core.Bool.{true}
 use mathlib.Core.List.{List, [], _∷_}
 use native.Mathlib.Omega.{arith}
@@ -16,7 +16,8 @@ use Rattle.protocol.specs.Octets.{lineEnd}
 use Rattle.protocol.specs.Lines.{lineText}
 use Rattle.protocol.specs.Kinds.{kindOf}
 use Rattle.protocol.specs.Refusals.{severalLines, refusal, lineRefusal}
-use Rattle.protocol.specs.Answers.{lineAnswerBy, lineAnswer}
+use Rattle.protocol.specs.Answers.{lineAnswer}
+use Rattle.protocol.proofs.KindAnswer.{line-refused, line-answered}
 use Rattle.protocol.proofs.Limits.{not-too-long, line-too-long}
 use Rattle.lists.proofs.Cuts.{upTo-none}
 
@@ -34,9 +35,7 @@ module _ (l : List ℕ) (h : length l ≤ 512_000) where
   one-line k = not-too-long l (severalLines l ∷ []) h ∙ rw (any-none lineEnd l k)
 
 pub refused-answer : (l : List ℕ) (n : ℕ) → n ≡ lineRefusal l → (n ≡ 0 → ⊥) → LineAnswer.Refused n ≡ lineAnswer l
-unfolding lineAnswer lineAnswerBy
-refused-answer l zero e h = absurd (h refl)
-refused-answer l (suc n) e h = rw (← e)
+refused-answer l n e h = rw e (sym (line-refused l (λ z. h (e ∙ z))))
 
 -- a line that isn't refused holds no line ending
 whole-line : (l : List ℕ) → 0 ≡ lineRefusal l → lineText l ≡ l
@@ -50,5 +49,4 @@ whole-line l z =
     (λ e. e))
 
 pub kind-answer : (l : List ℕ) (k : Kind) → 0 ≡ lineRefusal l → k ≡ kindOf (lineText l) → LineAnswer.Kind k ≡ lineAnswer l
-unfolding lineAnswer lineAnswerBy
-kind-answer l k e h = rw (← e, h, whole-line l e)
+kind-answer l k e h = rw (h, whole-line l e) (sym (line-answered l (sym e)))

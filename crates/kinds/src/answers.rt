@@ -1,12 +1,11 @@
 // The answer to: tell the kind of one line.
 
 ghost use mathlib.Core.Path.{_≡_};
-ghost use Rattle.protocol.specs.Refusals.{lineRefusal};
-ghost use Rattle.protocol.specs.Answers.{lineAnswer};
+ghost use Rattle.protocol.specs.Answers.{lineAnswer, refusalOf};
 use protocol::LineAnswer;
 
 pub fn line_refusal(line: &[u8]) -> usize
-    ensures { λ r. ⌜ r ≡ lineRefusal (now (line .entry)) ⌝ }
+    ensures { λ r. ⌜ r ≡ refusalOf (lineAnswer (now (line .entry))) ⌝ }
 {
     if 512000 < line.len() {
         return 1;

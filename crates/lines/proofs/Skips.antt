@@ -1,22 +1,24 @@
 -- Quiet octets and the line endings among them: octet by octet, and from one block to the next. Assumes nothing.
 use Prim.Native.Nat.{ℕ, zero, suc, _+_, _-_, _≤_, _<_}
-use mathlib.Core.Path.{_≡_, refl, sym, ap, _∙_}
-use mathlib.Core.Bool.{Bool, true, false, _&&_, _||_, not, and-assoc}
+use mathlib.Core.Path.{_≡_, refl, sym, ap, ap₂, _∙_}
+use mathlib.Core.Bool.{Bool, true, false, _&&_, _||_, not, and-assoc, false≢true}
 use mathlib.Core.List.{List, [], _∷_}
 use native.Mathlib.Omega.{arith}
 use native.Mathlib.Numerals.{add-one}
 use lib.Bits.{bitOr}
-use lib.Dec.{eqb}
+use lib.Dec.{eqb, ltb}
 use lib.ListN.{length, take, drop, getD, length-take}
 use lib.Seq.{drop-nil, drop-drop}
+use borrow.Author.Tests.{ltb-true, ltb-false}
 use Rattle.lists.specs.Choice.{oneIf}
 use Rattle.lists.specs.Lists.{numbersFrom}
-use Rattle.lists.proofs.Bools.{one-at-most}
+use Rattle.lists.proofs.Bools.{one-at-most, split, and-left, and-right}
 use Rattle.lists.proofs.Scans.{drop-one}
 use Rattle.octets.proofs.Every.{every-octet}
 use Rattle.protocol.specs.Octets.{is, upper, blank, lineEnd, lowerCase}
 use Rattle.protocol.specs.Lines.{closes}
-use Rattle.lines.specs.Skips.{entryOctet, quiet, endings}
+use Rattle.lines.specs.declared.skip.Passed.{Passed}
+use Rattle.lines.specs.Skips.{entryOctet, quiet, endings, PassedFrom}
 
 -- without a branch: a letter with the bit 32 set is the lower-case one
 abbrev entryBits : Bool → ℕ → Bool
@@ -100,3 +102,31 @@ endings-few (c ∷ d ∷ l) = omega (arith, endings-few (d ∷ l), one-at-most (
 
 pub endings-fit : (n : ℕ) (l : List ℕ) → endings (take (n + 1) l) ≤ n
 endings-fit n l = omega (arith, endings-few (take (n + 1) l), length-take (n + 1) l)
+
+-- a part of quiet octets is quiet
+quiet-part : (rules : Bool) (l : List ℕ) (n k m : ℕ) → k + m ≤ n → quiet rules (take (suc n) l) ≡ true → quiet rules (take (suc m) (drop k l)) ≡ true
+quiet-part rules l n k m h e =
+    let rest = n - k - m in
+    let front : Bool = quiet rules (take (suc k) l) in
+    let part : Bool = quiet rules (take (suc m) (drop k l)) in
+    let back : Bool = quiet rules (take (suc rest) (drop m (drop k l))) in
+    let all : n ≡ k + (m + rest) = omega arith in
+    and-left part back (sym (quiet-seam rules (drop k l) m rest) ∙ and-right front _ (sym (quiet-seam rules l k (m + rest)) ∙ rw all at e))
+
+-- What is passed over is determined: who passes over fewer blocks has stopped at a block that the other found quiet.
+module _ (rules : Bool) (s : List ℕ) (p : ℕ) where
+  not-fewer : (r q : Passed) → PassedFrom rules s p r → PassedFrom rules s p q → q .octets ≤ r .octets
+  not-fewer r q a b =
+      split (ltb (r .octets) (q .octets))
+      (λ h.
+      let more : r .octets + 64 ≤ q .octets = omega (arith, ltb-true (r .octets) (q .octets) h, a .blocks .whole, b .blocks .whole) in
+      let one : q .octets + 1 ≡ suc (q .octets) = omega arith in
+      let block = quiet-part rules (drop p s) (q .octets) (r .octets) 64 more (rw one at (b .still)) in
+      let stop = a .ended (omega (arith, more, b .behind (omega (arith, more)))) in
+      absurd (false≢true (sym stop ∙ rw (← drop-drop (r .octets) p s) block)))
+      (λ h. ltb-false (r .octets) (q .octets) h)
+
+  pub passed-one : (r q : Passed) → PassedFrom rules s p r → PassedFrom rules s p q → r ≡ q
+  passed-one r q a b =
+      let e : r .octets ≡ q .octets = omega (arith, not-fewer r q a b, not-fewer q r b a) in
+      ap₂ (λ (n m : ℕ). record { octets = n; lines = m }) e (a .counted ∙ ap (λ (n : ℕ). endings (take (n + 1) (drop p s))) e ∙ sym (b .counted))

@@ -4,7 +4,7 @@ ghost use mathlib.Core.Path.{_≡_};
 ghost use mathlib.Core.Bool.{true};
 ghost use Prim.Native.Nat.{_+_, _≤_};
 ghost use lib.ListN.{length, take, drop};
-ghost use Rattle.lines.specs.Skips.{entryOctet, quiet, endings};
+ghost use Rattle.lines.specs.Skips.{entryOctet, quiet, endings, PassedFrom};
 use protocol::FIELDS;
 
 // What was passed over: so many octets, which close so many lines.
@@ -57,7 +57,7 @@ fn endings(b: &[u8]) -> usize
 // Passes over whole blocks of 64 octets, as long as no such line begins behind one of these.
 pub fn pass(s: &[u8], from: usize, rules: bool) -> Passed
     requires { ⌜ from ≤ length (now s) ⌝ }
-    ensures { λ r. ⌜ (from + r .octets ≤ length (now (s .entry))) × (quiet rules (take (r .octets + 1) (drop from (now (s .entry)))) ≡ true) × (r .lines ≡ endings (take (r .octets + 1) (drop from (now (s .entry))))) ⌝ }
+    ensures { λ r. ⌜ PassedFrom rules (now (s .entry)) from r ⌝ }
 {
     let mut i = from;
     let mut lines = 0;

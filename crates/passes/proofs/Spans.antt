@@ -17,7 +17,7 @@ use Rattle.protocol.specs.Lines.{Line, line, closes, linesFrom, lineText, endin
 use Rattle.protocol.specs.Kinds.{kindOf}
 use Rattle.protocol.proofs.FrontToBack.{linesBehind, first-line, behind-closed, behind-open, closing-ends, length-on, line-fits, line-some, lines-end, lines-next}
 use Rattle.lines.specs.declared.skip.Passed.{Passed}
-use Rattle.lines.specs.Skips.{entryOctet, quiet, endings}
+use Rattle.lines.specs.Skips.{entryOctet, quiet, endings, PassedFrom}
 use Rattle.lines.proofs.Skips.{endings-fit}
 use Rattle.fields.specs.declared.Field.{Field}
 use Rattle.fields.specs.Fields.{fieldOf}
@@ -41,13 +41,6 @@ textAt file p = lineText (drop p file)
 -- where the next one begins
 abbrev pub nextAt : List ℕ → ℕ → ℕ
 nextAt file p = p + lineLength (drop p file)
-
--- some octets were passed over from p on
-abbrev pub PassedFrom : Bool → List ℕ → ℕ → Passed → Type 0
-PassedFrom rules file p r =
-    (p + r .octets ≤ length file)
-    × (quiet rules (take (r .octets + 1) (drop p file)) ≡ true)
-    × (r .lines ≡ endings (take (r .octets + 1) (drop p file)))
 
 -- octets behind which no line that counts begins are passed over, whatever is asked of the lines, if lines that begin otherwise don't change it
 module _ {X : Type 0} (ask : List Line → X) (rules : Bool) (same : (n p c : ℕ) (l : List ℕ) (ls : List Line) → entryOctet rules c ≡ false → ask (line n p (lineText (c ∷ l)) ∷ ls) ≡ ask ls) where
@@ -90,8 +83,8 @@ module _ {X : Type 0} (ask : List Line → X) (rules : Bool) (same : (n p c : �
       let k = r .octets in
       let m = endings (take (suc k) (drop p file)) in
       let one : k + 1 ≡ suc k = omega arith in
-      let off : quiet rules (take (suc k) (drop p file)) ≡ true = rw one at (past .1) in
-      let q : n + (r .lines + 1) ≡ n + m + 1 = omega (arith, past .2, ap (λ (i : ℕ). endings (take i (drop p file))) one) in
+      let off : quiet rules (take (suc k) (drop p file)) ≡ true = rw one at (past .still) in
+      let q : n + (r .lines + 1) ≡ n + m + 1 = omega (arith, past .counted, ap (λ (i : ℕ). endings (take i (drop p file))) one) in
       let here : linesBehind n p (drop p file) ≡ linesAt file (n + 1) (nextAt file p) = rw (drop-drop (lineLength (drop p file)) p file) in
       let there : linesBehind (n + m) (p + k) (drop k (drop p file)) ≡ linesAt file (n + (r .lines + 1)) (nextAt file (p + k))
       = rw (q, drop-drop k p file, drop-drop (lineLength (drop (p + k) file)) (p + k) file) in
@@ -144,14 +137,14 @@ module _ (file : List ℕ) (p : ℕ) (h : p < length file) where
 
     -- two lines at most for each octet
     pub past-lines : 2 * p + (r .lines + 1) ≤ 2 * nextAt file (p + r .octets)
-    past-lines = few (r .octets) (omega (arith, past .2, endings-fit (r .octets) (drop p file)))
+    past-lines = few (r .octets) (omega (arith, past .counted, endings-fit (r .octets) (drop p file)))
       where
         few : (k : ℕ) → r .lines ≤ k → 2 * p + (r .lines + 1) ≤ 2 * nextAt file (p + k)
         few zero f = omega (arith, f, further 0)
         few (suc k) f = omega (arith, f)
 
     pub past-inside : nextAt file (p + r .octets) ≤ length file
-    past-inside = omega (arith, past .0, line-fits (drop (p + r .octets) file), length-drop (p + r .octets) file)
+    past-inside = omega (arith, past .inside, line-fits (drop (p + r .octets) file), length-drop (p + r .octets) file)
 
   pub names-past : (who : List ℕ) (n : ℕ) (r : Passed) → PassedFrom false file p r → lineNames who (textAt file p) ≡ false
       → anyNames who (linesAt file (n + (r .lines + 1)) (nextAt file (p + r .octets))) ≡ anyNames who (linesAt file n p)

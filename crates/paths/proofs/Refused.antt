@@ -1,5 +1,5 @@
--- The refusals, row by row, and what a refused normalising writes. Assumes nothing.
-use Prim.Native.Nat.{ℕ, zero, suc, _≤_, _<_}
+-- The refusals, row by row. Assumes nothing.
+use Prim.Native.Nat.{ℕ, _≤_, _<_}
 use mathlib.Core.Path.{_≡_, refl, _∙_}
 use mathlib.Core.Bool.{not}
 use mathlib.Core.List.{List, [], _∷_, _++_}
@@ -14,7 +14,6 @@ use Rattle.lists.proofs.Bools.{split}
 use Rattle.protocol.specs.Text.{begins}
 use Rattle.protocol.specs.Normal.{normalPath}
 use Rattle.protocol.specs.Refusals.{Row, outsidePath, noRoom, pathRows, refusal, normaliseRefusal}
-use Rattle.protocol.specs.Answers.{writtenBy, normalWritten}
 
 -- no number of a row is that of an answer
 abbrev pub Numbered : List Row → Type 0
@@ -61,20 +60,6 @@ pub path-else : (path : List ℕ) → 0 < length path → length path ≤ 2_048
 unfolding refusal begins
 path-else [] h k = absurd (omega arith)
 path-else (x ∷ l) h k = rw (le-ltb 2_048 (length (x ∷ l)) k)
-
-writes-nothing : (n : ℕ) (out : List ℕ) → (n ≡ 0 → ⊥) → writtenBy n out ≡ []
-unfolding writtenBy
-writes-nothing zero out h = absurd (h refl)
-writes-nothing (suc n) out h = refl
-
-module _ (path buffer : List ℕ) where
-  pub refused-writes : (normaliseRefusal (length buffer) path ≡ 0 → ⊥) → normalWritten path buffer ≡ []
-  unfolding normalWritten
-  refused-writes h = writes-nothing (normaliseRefusal (length buffer) path) (normalPath path) h
-
-  pub answered-writes : normaliseRefusal (length buffer) path ≡ 0 → normalWritten path buffer ≡ normalPath path
-  unfolding normalWritten writtenBy
-  answered-writes h = rw h
 
 -- a path that no row of its own refuses is refused for want of room
 module _ (room : ℕ) (path : List ℕ) where

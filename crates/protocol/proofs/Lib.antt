@@ -13,6 +13,8 @@ pub mod Leftmost
 pub mod Starts
 pub mod Found
 pub mod MatchAnswer
+pub mod NormaliseAnswer
+pub mod KindAnswer
 pub mod Refused
 pub mod Answered
 pub mod Applying

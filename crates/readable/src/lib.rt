@@ -1,4 +1,4 @@
-// Whether the value of an agent line, or the pattern of a rule line, is readable.
+// Whether the value of an agent line, or the pattern of a rule line, is readable; and whether a crawler's name is refused.
 
 ghost use mathlib.Core.Path.{_≡_};
 ghost use mathlib.Core.List.{[]};
@@ -6,6 +6,7 @@ ghost use lib.ListN.{length};
 ghost use Rattle.lists.specs.Lists.{all, upTo, same};
 ghost use Rattle.protocol.specs.Octets.{token};
 ghost use Rattle.protocol.specs.Readable.{everyone, isName, readableAgent, characterForms, dueAfter, wellFormed, patternStart, readablePattern};
+ghost use Rattle.protocol.specs.Refusals.{badName};
 ghost use Rattle.readable.specs.Due.{dueRanges, duePast, ordinary, unusual};
 
 // The octets that a character still lacks: `more` of them, the next from `low` to `high`, those behind it UTF8-tails.
@@ -153,4 +154,17 @@ pub fn readable_agent(v: &[u8]) -> bool
         return true;
     }
     is_name(v)
+}
+
+// A crawler's name that is refused.
+pub fn is_bad_name(name: &[u8]) -> bool
+    ensures { λ r. ⌜ r ≡ badName (now (name .entry)) .given ⌝ }
+{
+    if name.len() == 0 {
+        return true;
+    }
+    if 64 < name.len() {
+        return true;
+    }
+    !all_token(name)
 }

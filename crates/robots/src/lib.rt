@@ -9,10 +9,10 @@ ghost use Rattle.lists.specs.Lists.{total};
 ghost use Rattle.protocol.specs.Normal.{normalPath};
 ghost use Rattle.protocol.specs.Pattern.{shapeOf, weight};
 ghost use Rattle.protocol.specs.Matching.{Matches};
-ghost use Rattle.protocol.specs.Refusals.{decideRows, matchRefusal, normaliseRefusal, lineRefusal};
+ghost use Rattle.protocol.specs.Refusals.{decideRows, matchRefusal, normaliseRefusal};
 ghost use Rattle.protocol.specs.Decision.{weightOf};
 ghost use Rattle.protocol.specs.Meaning.{ByTable, Shut, walkedRules};
-ghost use Rattle.protocol.specs.Answers.{decide, sideNumber, matchOf, foundNumber, normaliseOf, normaliseBuffer, lineAnswer, kindNumberOf, valuePlace, valueLength};
+ghost use Rattle.protocol.specs.Answers.{decide, sideNumber, matchOf, foundNumber, normaliseOf, normaliseBuffer, lineAnswer, refusalOf, kindNumberOf, valuePlace, valueLength};
 
 // Why a decision is refused, by the table of refusals: 0 where it isn't.
 #[no_mangle]
@@ -111,11 +111,12 @@ pub extern "C" fn robots_match_compared(pattern: &[u8], path: &[u8]) -> usize
     answer.compared
 }
 
-// The octets written into the front of the buffer: 0 where the path is refused.
+// The octets written into the front of the buffer: 0 where the path is refused, and then the buffer is as it was.
 #[no_mangle]
 pub extern "C" fn robots_normalise(path: &[u8], buffer: &mut [u8]) -> usize
     ensures { λ r. ⌜ r ≡ normaliseOf (now (path .entry)) (now (buffer .entry)) .written ⌝ }
     ensures { λ _. ⌜ now (buffer .exit) ≡ normaliseBuffer (now (path .entry)) (now (buffer .entry)) ⌝ }
+    ensures { λ _. ⌜ ((normaliseRefusal (length (now (buffer .entry))) (now (path .entry)) ≡ 0 → ⊥) → now (buffer .exit) ≡ now (buffer .entry)) ⌝ }
 {
     let answer = paths::normalise(path, buffer);
     answer.written
@@ -131,7 +132,7 @@ pub extern "C" fn robots_normalise_refusal(path: &[u8], room: usize) -> usize
 
 #[no_mangle]
 pub extern "C" fn robots_line_refusal(line: &[u8]) -> usize
-    ensures { λ r. ⌜ r ≡ lineRefusal (now (line .entry)) ⌝ }
+    ensures { λ r. ⌜ r ≡ refusalOf (lineAnswer (now (line .entry))) ⌝ }
 {
     kinds::answers::line_refusal(line)
 }

@@ -1,18 +1,24 @@
--- `lines::skip::pass` meets its contract: what is passed so far is quiet, and its endings are counted. Assumes nothing.
-use Prim.Native.Nat.{_+_, _-_, _≤_}
+-- `lines::skip::pass` meets its contract: what is passed so far are whole blocks, quiet, and their endings are counted. Assumes nothing.
+use Prim.Native.Nat.{_+_, _-_, _≤_, _<_}
 use mathlib.Core.Path.{_≡_, sym, ap₂, _∙_}
 use mathlib.Core.Bool.{true, _&&_}
+use mathlib.Core.Logic.{⊎-elim}
 use native.Mathlib.Omega.{arith}
 use lib.ListN.{length, take, drop, length-take, length-drop}
-use borrow.Author.Tests.{not-false}
-use Rattle.lines.specs.Skips.{quiet, endings}
+use borrow.Author.Tests.{not-true, not-false}
+use Rattle.lines.specs.Skips.{quiet, endings, WholeBlocks}
 use Rattle.lines.proofs.Skips.{quiet-one, endings-one, quiet-more, endings-more, endings-fit}
 use Rattle.lines.proofs.skip.pass.Statement.{statement}
 use Rattle.lines.proofs.skip.pass.Tie as tie
 
 abbrev Inv-loop : tie.InvT-loop
 Inv-loop s from rules i₀ lines₀ last i lines =
-    (from ≤ i) × (i ≤ length s) × (quiet rules (take (i - from + 1) (drop from s)) ≡ true) × (lines ≡ endings (take (i - from + 1) (drop from s)))
+    (from ≤ i)
+    × (i ≤ length s)
+    × (0 < i - from → i < length s)
+    × (quiet rules (take (i - from + 1) (drop from s)) ≡ true)
+    × (lines ≡ endings (take (i - from + 1) (drop from s)))
+    × WholeBlocks (i - from)
 
 abbrev μ-loop : tie.MeasureT-loop
 μ-loop s from rules i₀ lines₀ last i lines = length s - i
@@ -21,7 +27,14 @@ returns : tie.Need-returns Inv-loop μ-loop
 returns c =
     let a = c .before .before .args in
     let one = take 1 (drop (a .from) (a .s .now)) in
-    (omega arith, quiet-one (a .rules) one (simp length-take (omega arith)), sym (endings-one one (simp length-take (omega arith))))
+    record {
+      inside = omega arith;
+      behind = λ h. absurd (omega (arith, h));
+      still = quiet-one (a .rules) one (simp length-take (omega arith));
+      counted = sym (endings-one one (simp length-take (omega arith)));
+      blocks = record { blocks = 0; whole = omega arith };
+      ended = λ h. absurd (omega (arith, h));
+    }
 
 sub-last : tie.Need-sub-last Inv-loop μ-loop
 sub-last c = omega arith
@@ -29,8 +42,14 @@ sub-last c = omega arith
 loop-holds : tie.Need-loop-holds Inv-loop μ-loop
 loop-holds c =
     let a = c .before .before .args in
-    let one = take (a .from - a .from + 1) (drop (a .from) (a .s .now)) in
-    (omega arith, omega arith, quiet-one (a .rules) one (simp length-take (omega arith)), sym (endings-one one (simp length-take (omega arith))))
+    let one = take (a .from - a .from + 1) (drop (a .from) (a .s .now)) in (
+      omega arith,
+      omega arith,
+      λ h. absurd (omega (arith, h)),
+      quiet-one (a .rules) one (simp length-take (omega arith)),
+      sym (endings-one one (simp length-take (omega arith))),
+      record { blocks = 0; whole = omega arith },
+    )
 
 add-end : tie.Need-add-end Inv-loop μ-loop
 add-end c = omega arith
@@ -59,7 +78,7 @@ add-lines c =
       arith,
       rw size at (c .endings .ensures),
       endings-fit 64 (drop (l .loop .i) (a .s .now)),
-      l .loop .inv .3,
+      l .loop .inv .4,
       endings-fit (l .loop .i - a .from) (drop (a .from) (a .s .now)),
     )
 
@@ -77,15 +96,33 @@ loop-again c =
     let still = rw size at (sym (c .before .before .is-quiet .ensures) ∙ not-false (c .before .before .is-quiet .result) (c .before .if2 .left)) in (
       omega arith,
       omega arith,
-      quiet-more (a .s .now) (a .from) (l .loop .i) 64 (omega arith) (a .rules) ∙ ap₂ _&&_ (l .loop .inv .2) still,
-      ap₂ _+_ (l .loop .inv .3) (rw size at (c .endings .ensures)) ∙ sym (endings-more (a .s .now) (a .from) (l .loop .i) 64 (omega arith)),
+      λ h. omega arith,
+      quiet-more (a .s .now) (a .from) (l .loop .i) 64 (omega arith) (a .rules) ∙ ap₂ _&&_ (l .loop .inv .3) still,
+      ap₂ _+_ (l .loop .inv .4) (rw size at (c .endings .ensures)) ∙ sym (endings-more (a .s .now) (a .from) (l .loop .i) 64 (omega arith)),
+      record { blocks = l .loop .inv .5 .blocks + 1; whole = omega (arith, l .loop .inv .5 .whole) },
     )
 
 sub-t9 : tie.Need-sub-t9 Inv-loop μ-loop
 sub-t9 c = omega arith
 
 returns-2 : tie.Need-returns-2 Inv-loop μ-loop
-returns-2 c = let l = c .before .loop .inv in (omega arith, l .2, l .3)
+returns-2 c =
+    let l = c .before .loop in
+    let a = c .before .before .before .before .args in
+    let size : l .i + 65 - l .i ≡ 65 = omega arith in
+    let there : a .from + (l .i - a .from) ≡ l .i = omega arith in
+    record {
+      inside = omega arith;
+      behind = λ h. omega (arith, l .inv .2 h);
+      still = l .inv .3;
+      counted = l .inv .4;
+      blocks = l .inv .5;
+      ended =
+          ⊎-elim
+          (λ w h. absurd (omega (arith, h, w .left)))
+          (λ w h. rw there (rw size at (sym (w .2 .ensures) ∙ not-true (w .2 .result) (w .3 .taken))))
+          (c .loop-test .came);
+    }
 
 pub pass-spec : {M : Type 1} → statement M
 pass-spec =

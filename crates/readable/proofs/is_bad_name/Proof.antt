@@ -1,8 +1,8 @@
--- `decide::answers::is_bad_name` meets its contract. Assumes nothing.
-use Rattle.decide.proofs.Refusing.{name-empty, name-long, name-octets}
+-- `readable::is_bad_name` meets its contract. Assumes nothing.
+use Rattle.readable.proofs.Names.{name-empty, name-long, name-octets}
 use borrow.Author.Needs.{needs}
-use Rattle.decide.proofs.answers.is_bad_name.Statement.{statement}
-use Rattle.decide.proofs.answers.is_bad_name.Tie as tie
+use Rattle.readable.proofs.is_bad_name.Statement.{statement}
+use Rattle.readable.proofs.is_bad_name.Tie as tie
 
 returns : tie.Need-returns
 returns c = name-empty (c .before .before .args .name .now) (c .if1 .taken)
