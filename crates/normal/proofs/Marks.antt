@@ -7,30 +7,49 @@ use mathlib.Core.List.{List, [], _∷_}
 use native.Mathlib.Omega.{arith}
 use native.Mathlib.Numerals.{unary-clauses}
 use lib.Dec.{ltb}
-use lib.ListN.{length, take, getD}
+use lib.ListN.{length, take, drop, getD}
 use lib.Seq.{take-length}
 use borrow.Author.Tests.{lt-ltb, le-ltb}
+use Rattle.lists.specs.Lists.{upTo}
 use Rattle.lists.proofs.Bools.{split}
 use Rattle.lists.proofs.Fronts.{dropLast-take}
+use Rattle.lists.proofs.Scans.{scan-none, scan-stop, scan-on}
 use Rattle.protocol.specs.Octets.{is}
 use Rattle.protocol.specs.Text.{ends}
 use Rattle.protocol.specs.Normal.{normal}
 use Rattle.protocol.specs.Pattern.{rawText, shapeOf, weight}
 use Rattle.protocol.proofs.Sizes.{mark-length}
+use Rattle.text.specs.Parts.{among}
+use Rattle.text.proofs.Seeks.{only-one}
 
 -- the last octet, by its index
-pub ends-last : (c : Char) (l : List ℕ) → 0 < length l → ends c l ≡ is c (getD l (length l - 1) 0)
+ends-last : (c : Char) (l : List ℕ) → 0 < length l → ends c l ≡ is c (getD l (length l - 1) 0)
 unfolding ends
 ends-last c [] h = absurd (omega arith)
 ends-last c (x ∷ []) h = refl
 ends-last c (x ∷ y ∷ l) h = simp unary-clauses (simp unary-clauses at (ends-last c (y ∷ l) (omega arith)))
 
 module _ (raw : List ℕ) where
-  pub text-marked : ends "$" raw ≡ true → length (rawText raw) ≡ length raw - 1
+  text-marked : ends "$" raw ≡ true → length (rawText raw) ≡ length raw - 1
   text-marked h = omega (arith, rw h at (mark-length raw))
 
-  pub text-unmarked : ends "$" raw ≡ false → length (rawText raw) ≡ length raw
+  text-unmarked : ends "$" raw ≡ false → length (rawText raw) ≡ length raw
   text-unmarked h = omega (arith, rw h at (mark-length raw))
+
+  -- a "$" looked for from the last octet on
+  pub mark-sought : 0 < length raw → length raw - 1 + length (upTo (among 36 36 true) (drop (length raw - 1) raw)) ≡ length (rawText raw)
+  mark-sought h =
+      let last = length raw - 1 in
+      let there = only-one 36 (getD raw last 0) ∙ sym (ends-last "$" raw h) in
+      split (ends "$" raw)
+      (λ e. omega (arith, scan-stop (among 36 36 true) raw last 0 (omega arith) (there ∙ e), text-marked e))
+      (λ e.
+      omega (
+        arith,
+        scan-on (among 36 36 true) raw last 0 (omega arith) (there ∙ e),
+        scan-none (among 36 36 true) raw (last + 1) 0 (omega arith),
+        text-unmarked e,
+      ))
 
   -- it is the raw pattern's front
   pub text-front : take (length (rawText raw)) raw ≡ rawText raw

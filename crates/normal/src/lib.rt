@@ -86,7 +86,7 @@ pub fn normalise_run(run: &[u8], scratch: &mut [u8]) -> Written
     Written::Octets(n)
 }
 
-// How many raw octets stand before the end mark, or all of them where there is none.
+// How many raw octets stand before the end mark, or all of them where there is none. Only the last octet can be one.
 pub fn text_length(pattern: &[u8]) -> usize
     ensures { λ r. ⌜ r ≡ length (rawText (now (pattern .entry))) ⌝ }
 {
@@ -94,10 +94,8 @@ pub fn text_length(pattern: &[u8]) -> usize
     if n == 0 {
         return 0;
     }
-    if pattern[n - 1] == b'$' {
-        return n - 1;
-    }
-    n
+    let last = n - 1;
+    text::seek(pattern, last, b'$', b'$', true)
 }
 
 // A pattern's weight, measured as for a buffer, with the largest room there is: what is required says that this suffices.

@@ -1,12 +1,12 @@
 -- The refusals, row by row. Assumes nothing.
 use Prim.Native.Nat.{ℕ, _≤_, _<_}
 use mathlib.Core.Path.{_≡_, refl, _∙_}
-use mathlib.Core.Bool.{not}
+use mathlib.Core.Bool.{Bool, not}
 use mathlib.Core.List.{List, [], _∷_, _++_}
 use native.Mathlib.Omega.{arith}
 use lib.Dec.{leb, eqb}
 use lib.ListN.{length, getD}
-use borrow.Author.Tests.{lt-ltb, le-ltb, leb-true, leb-false}
+use borrow.Author.Tests.{eq-eqb, ne-eqb, lt-ltb, le-ltb, leb-true, leb-false}
 use Rattle.lists.specs.Choice.{if_then_else_}
 use Rattle.lists.specs.Lists.{any}
 use Rattle.lists.specs.Each.{Each}
@@ -55,11 +55,18 @@ unfolding refusal
 path-long [] h = absurd (omega arith)
 path-long (x ∷ l) h = rw (lt-ltb 2_048 (length (x ∷ l)) h)
 
-pub path-else : (path : List ℕ) → 0 < length path → length path ≤ 2_048
+path-else : (path : List ℕ) → 0 < length path → length path ≤ 2_048
     → refusal (pathRows path) ≡ (if not (eqb (getD path 0 0) 47) then 4 else if any outsidePath path then 5 else 0)
 unfolding refusal begins
 path-else [] h k = absurd (omega arith)
 path-else (x ∷ l) h k = rw (le-ltb 2_048 (length (x ∷ l)) k)
+
+module _ (path : List ℕ) (h : 0 < length path) (k : length path ≤ 2_048) where
+  pub path-start : (getD path 0 0 ≡ 47 → ⊥) → refusal (pathRows path) ≡ 4
+  path-start e = path-else path h k ∙ rw (ne-eqb (getD path 0 0) 47 e)
+
+  pub path-octets : (b : Bool) → getD path 0 0 ≡ 47 → b ≡ any outsidePath path → refusal (pathRows path) ≡ (if b then 5 else 0)
+  path-octets b e f = path-else path h k ∙ rw (eq-eqb (getD path 0 0) 47 e, f)
 
 -- a path that no row of its own refuses is refused for want of room
 module _ (room : ℕ) (path : List ℕ) where

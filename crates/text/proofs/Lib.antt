@@ -1,3 +1,3 @@
-mod Seeks
+pub mod Seeks
 pub mod Comparing
 pub mod Trims

@@ -1,9 +1,9 @@
 -- `paths::path_refusal` meets its contract. Assumes nothing.
 use mathlib.Core.Path.{sym, _∙_}
 use native.Mathlib.Omega.{arith}
-use borrow.Author.Tests.{eq-eqb, ne-eqb}
+use mathlib.Core.Bool.{true, false}
 use borrow.Author.Needs.{needs}
-use Rattle.paths.proofs.Refused.{path-empty, path-long, path-else}
+use Rattle.paths.proofs.Refused.{path-empty, path-long, path-start, path-octets}
 use Rattle.paths.proofs.path_refusal.Statement.{statement}
 use Rattle.paths.proofs.path_refusal.Tie as tie
 
@@ -19,7 +19,7 @@ shared-slice-read-if3 c = search needs
 returns-3 : tie.Need-returns-3
 returns-3 c =
     let l = c .before .before .before .before .before .args .path .now in
-    sym (path-else l (omega arith) (omega arith) ∙ rw (ne-eqb _ _ (c .if3 .taken)))
+    sym (path-start l (omega arith) (omega arith) (c .if3 .taken))
 
 holds-outside-requires : tie.Need-holds-outside-requires
 holds-outside-requires c κs = search needs
@@ -27,12 +27,12 @@ holds-outside-requires c κs = search needs
 returns-4 : tie.Need-returns-4
 returns-4 c =
     let l = c .before .before .before .before .before .before .before .args .path .now in
-    sym (path-else l (omega arith) (omega arith) ∙ rw (eq-eqb _ _ (c .before .before .if3 .left), sym (c .before .holds-outside .ensures) ∙ c .if4 .taken))
+    sym (path-octets l (omega arith) (omega arith) true (c .before .before .if3 .left) (sym (c .if4 .taken) ∙ c .before .holds-outside .ensures))
 
 returns-5 : tie.Need-returns-5
 returns-5 c =
     let l = c .before .before .before .before .before .before .before .args .path .now in
-    sym (path-else l (omega arith) (omega arith) ∙ rw (eq-eqb _ _ (c .before .before .if3 .left), sym (c .before .holds-outside .ensures) ∙ c .if4 .left))
+    sym (path-octets l (omega arith) (omega arith) false (c .before .before .if3 .left) (sym (c .if4 .left) ∙ c .before .holds-outside .ensures))
 
 pub path-refusal-spec : {M : Type 1} → statement M
 path-refusal-spec =
