@@ -41,14 +41,7 @@ fn row_of(field: Field) -> usize
 fn row_length(row: [u8; 10]) -> usize
     ensures { λ r. ⌜ r ≡ length (upTo (equals 0) row) ⌝ }
 {
-    let mut n = 0;
-    while n < 10 {
-        if row[n] == 0 {
-            return n;
-        }
-        n += 1;
-    }
-    n
+    text::find(&row, 0)
 }
 
 // The octets of a field's name: a zero can stand in a file too.
