@@ -26,7 +26,7 @@ use Rattle.text.proofs.Trims.{trim-fits}
 use Rattle.fields.specs.declared.Field.{Field}
 use Rattle.fields.specs.declared.Head.{Head}
 use Rattle.fields.specs.Fields.{fieldOf, sideOf, valueStart, headAt, headOf, stop, valueAt}
-use Rattle.fields.specs.Names.{nameOf, nameLength, beginsName, fieldAt}
+use Rattle.fields.specs.Names.{nameOf, nameLength, beginsName, fieldNamed, fieldAt}
 use Rattle.fields.proofs.Field as F
 use Rattle.lists.proofs.Cuts.{upTo-first, upTo-past}
 use Rattle.fields.proofs.Naming.{begun, begun-place, begun-told, not-first, one-name}
@@ -101,14 +101,14 @@ module _ (t : List ℕ) where
 
 -- by the octet x that a text begins with, in lower case
 module _ (t : List ℕ) (x : ℕ) (e : x ≡ lowerCase (getD t 0 0)) where
-  pub field-d : (b : Bool) → x ≡ 100 → beginsName Field.Disallow t ≡ b → found false false b ≡ fieldAt t
-  field-d b d h = field-by t false false b (no-agent t (λ k. omega (arith, e, d, k))) (no-allow t (λ k. omega (arith, e, d, k))) h
+  pub field-d : x ≡ 100 → fieldNamed Field.Disallow t ≡ fieldAt t
+  field-d d = field-by t false false (beginsName Field.Disallow t) (no-agent t (λ k. omega (arith, e, d, k))) (no-allow t (λ k. omega (arith, e, d, k))) refl
 
-  pub field-a : (b : Bool) → x ≡ 97 → beginsName Field.Allow t ≡ b → found false b false ≡ fieldAt t
-  field-a b d h = field-by t false b false (no-agent t (λ k. omega (arith, e, d, k))) h (no-disallow t (λ k. omega (arith, e, d, k)))
+  pub field-a : x ≡ 97 → fieldNamed Field.Allow t ≡ fieldAt t
+  field-a d = field-by t false (beginsName Field.Allow t) false (no-agent t (λ k. omega (arith, e, d, k))) refl (no-disallow t (λ k. omega (arith, e, d, k)))
 
-  pub field-u : (b : Bool) → x ≡ 117 → beginsName Field.Agent t ≡ b → found b false false ≡ fieldAt t
-  field-u b d h = field-by t b false false h (no-allow t (λ k. omega (arith, e, d, k))) (no-disallow t (λ k. omega (arith, e, d, k)))
+  pub field-u : x ≡ 117 → fieldNamed Field.Agent t ≡ fieldAt t
+  field-u d = field-by t (beginsName Field.Agent t) false false refl (no-allow t (λ k. omega (arith, e, d, k))) (no-disallow t (λ k. omega (arith, e, d, k)))
 
   pub field-no : (x ≡ 100 → ⊥) → (x ≡ 97 → ⊥) → (x ≡ 117 → ⊥) → Field.Other ≡ fieldAt t
   field-no p q s =

@@ -8,7 +8,7 @@ ghost use Rattle.protocol.specs.Octets.{lowerCase};
 ghost use Rattle.protocol.specs.Text.{begins};
 ghost use Rattle.text.specs.Parts.{equals};
 ghost use Rattle.fields.specs.Fields.{headOf};
-ghost use Rattle.fields.specs.Names.{nameLength, rowOf, beginsName, fieldAt};
+ghost use Rattle.fields.specs.Names.{nameLength, rowOf, beginsName, fieldNamed, fieldAt};
 use protocol::FIELDS;
 
 // A field that the protocol knows, or any other; a line without a field has the other one.
@@ -66,6 +66,17 @@ fn begins_name(s: &[u8], field: Field) -> bool
     text::same::begins_with(s, &name[..size])
 }
 
+// The field, where a text begins with its name, and else the other one.
+fn field_named(s: &[u8], field: Field) -> Field
+    ensures { λ r. ⌜ r ≡ fieldNamed field (now (s .entry)) ⌝ }
+{
+    if begins_name(s, field) {
+        field
+    } else {
+        Field::Other
+    }
+}
+
 // The first octet of a text, in lower case.
 fn initial(s: &[u8]) -> u8
     requires { ⌜ 0 < length (now s) ⌝ }
@@ -83,25 +94,13 @@ fn field_at(s: &[u8]) -> Field
     }
     let first = initial(s);
     if first == FIELDS[2][0] {
-        return if begins_name(s, Field::Disallow) {
-            Field::Disallow
-        } else {
-            Field::Other
-        };
+        return field_named(s, Field::Disallow);
     }
     if first == FIELDS[1][0] {
-        return if begins_name(s, Field::Allow) {
-            Field::Allow
-        } else {
-            Field::Other
-        };
+        return field_named(s, Field::Allow);
     }
     if first == FIELDS[0][0] {
-        return if begins_name(s, Field::Agent) {
-            Field::Agent
-        } else {
-            Field::Other
-        };
+        return field_named(s, Field::Agent);
     }
     Field::Other
 }

@@ -122,7 +122,7 @@ module _ (rules : Bool) (s : List ℕ) (p : ℕ) where
       let more : r .octets + 64 ≤ q .octets = omega (arith, ltb-true (r .octets) (q .octets) h, a .blocks .whole, b .blocks .whole) in
       let one : q .octets + 1 ≡ suc (q .octets) = omega arith in
       let block = quiet-part rules (drop p s) (q .octets) (r .octets) 64 more (rw one at (b .still)) in
-      let stop = a .ended (omega (arith, more, b .behind (omega (arith, more)))) in
+      let stop = a .ended (omega (arith, more, b .inside)) in
       absurd (false≢true (sym stop ∙ rw (← drop-drop (r .octets) p s) block)))
       (λ h. ltb-false (r .octets) (q .octets) h)
 

@@ -1,5 +1,5 @@
 -- Octets in which no line that may count begins, and the lines that they close. Assumes nothing.
-use Prim.Native.Nat.{ℕ, _+_, _*_, _≤_, _<_}
+use Prim.Native.Nat.{ℕ, _+_, _-_, _*_, _≤_}
 use mathlib.Core.Path.{_≡_}
 use mathlib.Core.Bool.{Bool, true, false, _&&_, _||_, not}
 use mathlib.Core.List.{List, [], _∷_}
@@ -27,16 +27,15 @@ endings (c ∷ d ∷ l) = oneIf (closes c (is "\n" d)) + endings (d ∷ l)
 
 -- so many octets are whole blocks of 64
 pub record WholeBlocks (octets : ℕ) : Type 0 where
-  pub blocks : ℕ
-  pub whole : octets ≡ 64 * blocks
+  pub count : ℕ
+  pub whole : octets ≡ 64 * count
 
--- What r says was passed over from p on: quiet octets, whose line endings are counted; whole blocks with an octet behind them, as many as there
--- are. Only where the next block, with the octet behind it, isn't quiet, or there are no 65 octets, is nothing more passed over. There is one
--- such r: Skips.passed-one of proofs/.
+-- What r says was passed over from p on: whole blocks of quiet octets, with an octet behind them, and the line endings that they close. Nothing
+-- more is passed over only where the next block, with the octet behind it, isn't quiet, or there are no 65 octets left. There is one such r
+-- (proofs/Skips: passed-one).
 pub record PassedFrom (rules : Bool) (s : List ℕ) (p : ℕ) (r : Passed) : Type 0 where
-  pub inside : p + r .octets ≤ length s
-  pub behind : 0 < r .octets → p + r .octets < length s
+  pub inside : r .octets ≤ length s - p - 1
+  pub blocks : WholeBlocks (r .octets)
   pub still : quiet rules (take (r .octets + 1) (drop p s)) ≡ true
   pub counted : r .lines ≡ endings (take (r .octets + 1) (drop p s))
-  pub blocks : WholeBlocks (r .octets)
   pub ended : p + r .octets + 65 ≤ length s → quiet rules (take 65 (drop (p + r .octets) s)) ≡ false

@@ -1,9 +1,8 @@
 // Passing over octets in which no agent or rule line begins.
 
 ghost use mathlib.Core.Path.{_≡_};
-ghost use mathlib.Core.Bool.{true};
-ghost use Prim.Native.Nat.{_+_, _≤_};
-ghost use lib.ListN.{length, take, drop};
+ghost use Prim.Native.Nat.{_≤_};
+ghost use lib.ListN.{length};
 ghost use Rattle.lines.specs.Skips.{entryOctet, quiet, endings, PassedFrom};
 use protocol::FIELDS;
 

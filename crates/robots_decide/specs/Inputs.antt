@@ -4,7 +4,7 @@ use mathlib.Core.List.{List}
 use Rattle.io.specs.Counts.{Counts}
 use Rattle.robots_decide.specs.declared.Input.{Input}
 
--- so many octets were read into the front of the buffer; nothing is said of a read that failed
+-- so many octets stand in the front of the buffer; nothing is said where a read failed
 abbrev pub Fits : Input → List ℕ → Type 0
 Fits (Input.Octets n) buffer = Counts n buffer
 Fits Input.Failed buffer = Unit {0}

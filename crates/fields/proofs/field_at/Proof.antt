@@ -1,6 +1,5 @@
 -- `fields::field_at` meets its contract. Assumes nothing.
-use mathlib.Core.Path.{sym, _∙_}
-use mathlib.Core.Bool.{true, false}
+use mathlib.Core.Path.{_∙_}
 use borrow.Author.Needs.{needs}
 use Rattle.fields.proofs.Heads.{field-none, field-d, field-a, field-u, field-no}
 use Rattle.fields.proofs.field_at.Statement.{statement}
@@ -18,18 +17,27 @@ index-1-if2 c = search needs
 index-2-if2 : tie.Need-index-2-if2
 index-2-if2 c = search needs
 
-begins-name-requires : tie.Need-begins-name-requires
-begins-name-requires c κs = tt
+field-named-requires : tie.Need-field-named-requires
+field-named-requires c κs = search needs
 
 returns-2 : tie.Need-returns-2
 returns-2 c =
-    let p = c .before .before .before .before in
-    field-d (p .before .before .before .args .s .now) (p .initial .result) (p .initial .ensures) true (c .before .before .if2 .taken) (sym (c .before .begins-name .ensures) ∙ c .if3 .taken)
+    let p = c .before .before .before in
+    c .field-named .ensures ∙ field-d (p .before .before .before .args .s .now) (p .initial .result) (p .initial .ensures) (c .before .if2 .taken)
+
+index-1-if3 : tie.Need-index-1-if3
+index-1-if3 c = search needs
+
+index-2-if3 : tie.Need-index-2-if3
+index-2-if3 c = search needs
+
+field-named-requires-2 : tie.Need-field-named-requires-2
+field-named-requires-2 c κs = search needs
 
 returns-3 : tie.Need-returns-3
 returns-3 c =
-    let p = c .before .before .before .before in
-    field-d (p .before .before .before .args .s .now) (p .initial .result) (p .initial .ensures) false (c .before .before .if2 .taken) (sym (c .before .begins-name .ensures) ∙ c .if3 .left)
+    let p = c .before .before .before .before .before in
+    c .field-named2 .ensures ∙ field-a (p .before .before .before .args .s .now) (p .initial .result) (p .initial .ensures) (c .before .if3 .taken)
 
 index-1-if4 : tie.Need-index-1-if4
 index-1-if4 c = search needs
@@ -37,42 +45,18 @@ index-1-if4 c = search needs
 index-2-if4 : tie.Need-index-2-if4
 index-2-if4 c = search needs
 
-begins-name-requires-2 : tie.Need-begins-name-requires-2
-begins-name-requires-2 c κs = tt
+field-named-requires-3 : tie.Need-field-named-requires-3
+field-named-requires-3 c κs = search needs
 
 returns-4 : tie.Need-returns-4
 returns-4 c =
-    let p = c .before .before .before .before .before .before in
-    field-a (p .before .before .before .args .s .now) (p .initial .result) (p .initial .ensures) true (c .before .before .if4 .taken) (sym (c .before .begins-name2 .ensures) ∙ c .if5 .taken)
+    let p = c .before .before .before .before .before .before .before in
+    c .field-named3 .ensures ∙ field-u (p .before .before .before .args .s .now) (p .initial .result) (p .initial .ensures) (c .before .if4 .taken)
 
 returns-5 : tie.Need-returns-5
 returns-5 c =
     let p = c .before .before .before .before .before .before in
-    field-a (p .before .before .before .args .s .now) (p .initial .result) (p .initial .ensures) false (c .before .before .if4 .taken) (sym (c .before .begins-name2 .ensures) ∙ c .if5 .left)
-
-index-1-if6 : tie.Need-index-1-if6
-index-1-if6 c = search needs
-
-index-2-if6 : tie.Need-index-2-if6
-index-2-if6 c = search needs
-
-begins-name-requires-3 : tie.Need-begins-name-requires-3
-begins-name-requires-3 c κs = tt
-
-returns-6 : tie.Need-returns-6
-returns-6 c =
-    let p = c .before .before .before .before .before .before .before .before in
-    field-u (p .before .before .before .args .s .now) (p .initial .result) (p .initial .ensures) true (c .before .before .if6 .taken) (sym (c .before .begins-name3 .ensures) ∙ c .if7 .taken)
-
-returns-7 : tie.Need-returns-7
-returns-7 c =
-    let p = c .before .before .before .before .before .before .before .before in
-    field-u (p .before .before .before .args .s .now) (p .initial .result) (p .initial .ensures) false (c .before .before .if6 .taken) (sym (c .before .begins-name3 .ensures) ∙ c .if7 .left)
-
-returns-8 : tie.Need-returns-8
-returns-8 c =
-    let p = c .before .before .before .before .before .before in
-    field-no (p .before .before .before .args .s .now) (p .initial .result) (p .initial .ensures) (c .before .before .before .before .if2 .left) (c .before .before .if4 .left) (c .if6 .left)
+    field-no (p .before .before .before .args .s .now) (p .initial .result) (p .initial .ensures) (c .before .before .before .before .if2 .left) (c .before .before .if3 .left) (c .if4 .left)
 
 pub field-at-spec : {M : Type 1} → statement M
 field-at-spec =
@@ -82,17 +66,14 @@ field-at-spec =
     initial-requires
     index-1-if2
     index-2-if2
-    begins-name-requires
+    field-named-requires
     returns-2
+    index-1-if3
+    index-2-if3
+    field-named-requires-2
     returns-3
     index-1-if4
     index-2-if4
-    begins-name-requires-2
+    field-named-requires-3
     returns-4
-    returns-5
-    index-1-if6
-    index-2-if6
-    begins-name-requires-3
-    returns-6
-    returns-7
-    returns-8)
+    returns-5)

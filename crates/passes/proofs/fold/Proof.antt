@@ -58,7 +58,7 @@ pass-requires : tie.Need-pass-requires Inv-loop μ-loop
 pass-requires c κs = omega (arith, c .before .before .before .before .if1 .taken)
 
 next-place-requires : tie.Need-next-place-requires Inv-loop μ-loop
-next-place-requires c κs = c .pass .ensures .inside
+next-place-requires c κs = omega (arith, c .pass .ensures .inside, c .before .before .before .before .before .if1 .taken)
 
 add-number : tie.Need-add-number Inv-loop μ-loop
 add-number c =

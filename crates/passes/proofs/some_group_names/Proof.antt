@@ -49,7 +49,7 @@ pass-requires : tie.Need-pass-requires Inv-loop μ-loop
 pass-requires c κs = omega (arith, c .before .before .before .if1 .taken)
 
 next-place-requires : tie.Need-next-place-requires Inv-loop μ-loop
-next-place-requires c κs = c .pass .ensures .inside
+next-place-requires c κs = omega (arith, c .pass .ensures .inside, c .before .before .before .before .if1 .taken)
 
 loop-less : tie.Need-loop-less Inv-loop μ-loop
 unfolding lineAt

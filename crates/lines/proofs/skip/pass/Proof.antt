@@ -4,8 +4,10 @@ use mathlib.Core.Path.{_≡_, sym, ap₂, _∙_}
 use mathlib.Core.Bool.{true, _&&_}
 use mathlib.Core.Logic.{⊎-elim}
 use native.Mathlib.Omega.{arith}
+use lib.Dec.{ltb}
 use lib.ListN.{length, take, drop, length-take, length-drop}
-use borrow.Author.Tests.{not-true, not-false}
+use borrow.Author.Tests.{not-true, not-false, ltb-true, ltb-false}
+use Rattle.lists.proofs.Bools.{split}
 use Rattle.lines.specs.Skips.{quiet, endings, WholeBlocks}
 use Rattle.lines.proofs.Skips.{quiet-one, endings-one, quiet-more, endings-more, endings-fit}
 use Rattle.lines.proofs.skip.pass.Statement.{statement}
@@ -15,7 +17,7 @@ abbrev Inv-loop : tie.InvT-loop
 Inv-loop s from rules i₀ lines₀ last i lines =
     (from ≤ i)
     × (i ≤ length s)
-    × (0 < i - from → i < length s)
+    × (from < i → i < length s)
     × (quiet rules (take (i - from + 1) (drop from s)) ≡ true)
     × (lines ≡ endings (take (i - from + 1) (drop from s)))
     × WholeBlocks (i - from)
@@ -29,10 +31,9 @@ returns c =
     let one = take 1 (drop (a .from) (a .s .now)) in
     record {
       inside = omega arith;
-      behind = λ h. absurd (omega (arith, h));
       still = quiet-one (a .rules) one (simp length-take (omega arith));
       counted = sym (endings-one one (simp length-take (omega arith)));
-      blocks = record { blocks = 0; whole = omega arith };
+      blocks = record { count = 0; whole = omega arith };
       ended = λ h. absurd (omega (arith, h));
     }
 
@@ -48,7 +49,7 @@ loop-holds c =
       λ h. absurd (omega (arith, h)),
       quiet-one (a .rules) one (simp length-take (omega arith)),
       sym (endings-one one (simp length-take (omega arith))),
-      record { blocks = 0; whole = omega arith },
+      record { count = 0; whole = omega arith },
     )
 
 add-end : tie.Need-add-end Inv-loop μ-loop
@@ -99,7 +100,7 @@ loop-again c =
       λ h. omega arith,
       quiet-more (a .s .now) (a .from) (l .loop .i) 64 (omega arith) (a .rules) ∙ ap₂ _&&_ (l .loop .inv .3) still,
       ap₂ _+_ (l .loop .inv .4) (rw size at (c .endings .ensures)) ∙ sym (endings-more (a .s .now) (a .from) (l .loop .i) 64 (omega arith)),
-      record { blocks = l .loop .inv .5 .blocks + 1; whole = omega (arith, l .loop .inv .5 .whole) },
+      record { count = l .loop .inv .5 .count + 1; whole = omega (arith, l .loop .inv .5 .whole) },
     )
 
 sub-t9 : tie.Need-sub-t9 Inv-loop μ-loop
@@ -112,8 +113,7 @@ returns-2 c =
     let size : l .i + 65 - l .i ≡ 65 = omega arith in
     let there : a .from + (l .i - a .from) ≡ l .i = omega arith in
     record {
-      inside = omega arith;
-      behind = λ h. omega (arith, l .inv .2 h);
+      inside = split (ltb (a .from) (l .i)) (λ e. omega (arith, l .inv .2 (ltb-true (a .from) (l .i) e))) (λ e. omega (arith, ltb-false (a .from) (l .i) e));
       still = l .inv .3;
       counted = l .inv .4;
       blocks = l .inv .5;
