@@ -111,7 +111,7 @@ impl<'a> Scanner<'a> {
         self.text().into_iter().map(line_feed).collect()
     }
 
-    /// Octets: `[]`, `mark`, `octets "…"`, `lines "…"`, or some of these and
+    /// Octets: `[]`, `leadingMark`, `octets "…"`, `lines "…"`, or some of these and
     /// lists of numerals in parentheses, joined by `++`.
     pub fn octets(&mut self) -> Vec<u8> {
         if self.skip("(") {
@@ -121,7 +121,7 @@ impl<'a> Scanner<'a> {
         }
         match self.word().as_str() {
             "[]" => Vec::new(),
-            "mark" => vec![0xEF, 0xBB, 0xBF],
+            "leadingMark" => vec![0xEF, 0xBB, 0xBF],
             "octets" => self.text(),
             "lines" => self.text_of_lines(),
             other => panic!("octets expected, not {other}"),

@@ -12,7 +12,7 @@ use Rattle.lists.proofs.Bools.{split}
 use Rattle.protocol.specs.Octets.{unreserved}
 use Rattle.protocol.specs.Text.{begins, ends}
 use Rattle.protocol.specs.Readable.{patternStart, readablePattern}
-use Rattle.protocol.specs.Normal.{encoded, meant, escape, isEscape, escapeAt, isEncoded, plain, piece, normal}
+use Rattle.protocol.specs.Normal.{encoded, meant, escape, isEscape, escapeAt, isEncoded, plain, replacement, normal}
 use Rattle.protocol.specs.Pattern.{rawText, shapeOf, weight}
 use Rattle.protocol.specs.Rules.{Rule}
 use Rattle.protocol.specs.Decision.{patternOf, readableRules, weightOf}
@@ -27,9 +27,9 @@ plain-some : (stars : Bool) (c : ℕ) → 1 ≤ length (plain stars c)
 unfolding plain encoded
 plain-some stars c = split (isEncoded stars c) (λ e. rw e (omega arith)) (λ e. rw e (omega arith))
 
-piece-some : (stars : Bool) (c : ℕ) (l : List ℕ) → 1 ≤ length (piece stars c l)
-unfolding piece
-piece-some stars c l = split (isEscape c l) (λ e. rw e (escape-some c l e)) (λ e. rw e (plain-some stars c))
+replacement-some : (stars : Bool) (c : ℕ) (l : List ℕ) → 1 ≤ length (replacement stars c l)
+unfolding replacement
+replacement-some stars c l = split (isEscape c l) (λ e. rw e (escape-some c l e)) (λ e. rw e (plain-some stars c))
 
 -- Whatever a pattern begins with, it weighs something.
 some-weight : (c : ℕ) (l : List ℕ) → 1 ≤ weight (shapeOf (c ∷ l))
@@ -38,7 +38,7 @@ some-weight c l =
     split (ends "$" (c ∷ l)) (λ e. rw e (omega arith))
     (λ e.
     let rest = normal true (if isEscape c l then 2 else 0) l in
-    rw e (omega (arith, length-append (piece true c l) rest, piece-some true c l)))
+    rw e (omega (arith, length-append (replacement true c l) rest, replacement-some true c l)))
 
 -- an empty pattern isn't readable
 pub empty-unreadable : readablePattern [] ≡ false

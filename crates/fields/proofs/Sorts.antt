@@ -8,7 +8,7 @@ use borrow.Author.Tests.{eqb-true, ne-eqb, leb-true}
 use Rattle.lists.proofs.Bools.{split, and-left}
 use Rattle.protocol.specs.Octets.{is, blank, lineEnd, upper, lowerCase}
 use Rattle.protocol.specs.Text.{solid}
-use Rattle.fields.specs.Fields.{stop, mark}
+use Rattle.fields.specs.Fields.{stop, delimiter}
 
 pub stop-solid : (x : ℕ) → stop x ≡ true → solid x ≡ true
 unfolding stop lineEnd blank
@@ -35,9 +35,9 @@ pub past-blank : (x : ℕ) → 32 < x → blank x ≡ false
 unfolding blank
 past-blank x h = rw (ne-eqb x 32 (λ e. omega arith), ne-eqb x 9 (λ e. omega arith))
 
-pub past-mark : (x : ℕ) → 58 < x → mark x ≡ false
-unfolding mark
-past-mark x h = rw (ne-eqb x 58 (λ e. omega arith), past-stop x (omega arith))
+pub past-delimiter : (x : ℕ) → 58 < x → delimiter x ≡ false
+unfolding delimiter
+past-delimiter x h = rw (ne-eqb x 58 (λ e. omega arith), past-stop x (omega arith))
 
 -- an octet of a field's name
 abbrev pub plain : ℕ → Bool

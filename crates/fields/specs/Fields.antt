@@ -49,8 +49,8 @@ unfoldable pub stop : ℕ → Bool
 stop x = is "#" x || lineEnd x
 
 -- a colon, or the end of what is examined
-unfoldable pub mark : ℕ → Bool
-mark x = is ":" x || stop x
+unfoldable pub delimiter : ℕ → Bool
+delimiter x = is ":" x || stop x
 
 -- nothing is left that is examined
 abbrev pub ended : List ℕ → Bool

@@ -11,7 +11,7 @@ ghost use Rattle.protocol.specs.Lines.{lineText};
 ghost use Rattle.protocol.specs.Readable.{wellFormed};
 ghost use Rattle.protocol.specs.Kinds.{agentAt, patternAt, kindOf};
 ghost use Rattle.fields.specs.declared.Field.{Field};
-ghost use Rattle.fields.specs.Fields.{fieldOf, sideOf, headOf, stop, mark, ended, valueAt};
+ghost use Rattle.fields.specs.Fields.{fieldOf, sideOf, headOf, stop, delimiter, ended, valueAt};
 use fields::Field;
 use fields::Head;
 use protocol::Agent;
@@ -132,8 +132,8 @@ pub fn pattern_of(r: &[u8], value: usize) -> Pattern
 }
 
 // A colon or a stop. Most octets are past all of them.
-fn is_mark(x: u8) -> bool
-    ensures { λ r. ⌜ r ≡ mark x ⌝ }
+fn is_delimiter(x: u8) -> bool
+    ensures { λ r. ⌜ r ≡ delimiter x ⌝ }
 {
     if b':' < x {
         return false;
@@ -146,11 +146,11 @@ fn is_mark(x: u8) -> bool
 
 // The octets in front of the first colon or stop.
 fn field_end(s: &[u8]) -> usize
-    ensures { λ r. ⌜ r ≡ length (upTo mark (now (s .entry))) ⌝ }
+    ensures { λ r. ⌜ r ≡ length (upTo delimiter (now (s .entry))) ⌝ }
 {
     let mut i = 0;
     while i < s.len() {
-        if is_mark(s[i]) {
+        if is_delimiter(s[i]) {
             return i;
         }
         i += 1;

@@ -11,7 +11,7 @@ use Rattle.lists.specs.Choice.{if_then_else_}
 use Rattle.lists.proofs.Bools.{and-left, and-right}
 use Rattle.protocol.specs.Octets.{is, lineEnd}
 use Rattle.protocol.specs.Text.{begins}
-use Rattle.protocol.specs.Lines.{endingLength, marked}
+use Rattle.protocol.specs.Lines.{endingLength, hasLeadingMark}
 
 pub no-ending : (s : List ℕ) → length s ≡ 0 → endingLength s ≡ 0
 unfolding endingLength
@@ -63,17 +63,17 @@ one-ending [] h e g = absurd (omega arith)
 one-ending (c ∷ []) h e g = absurd (omega arith)
 one-ending (c ∷ d ∷ l) h e g = other-ending c (d ∷ l) e g
 
-pub mark-short : (s : List ℕ) → length s < 3 → marked s ≡ false
-unfolding marked
-mark-short [] h = refl
-mark-short (a ∷ []) h = refl
-mark-short (a ∷ b ∷ []) h = refl
-mark-short (a ∷ b ∷ c ∷ l) h = absurd (omega arith)
+pub leading-mark-short : (s : List ℕ) → length s < 3 → hasLeadingMark s ≡ false
+unfolding hasLeadingMark
+leading-mark-short [] h = refl
+leading-mark-short (a ∷ []) h = refl
+leading-mark-short (a ∷ b ∷ []) h = refl
+leading-mark-short (a ∷ b ∷ c ∷ l) h = absurd (omega arith)
 
-pub mark-read : (s : List ℕ) → 3 ≤ length s
-    → marked s ≡ (eqb (getD s 0 0) 0xEF && eqb (getD s 1 0) 0xBB && eqb (getD s 2 0) 0xBF)
-unfolding marked
-mark-read [] h = absurd (omega arith)
-mark-read (a ∷ []) h = absurd (omega arith)
-mark-read (a ∷ b ∷ []) h = absurd (omega arith)
-mark-read (a ∷ b ∷ c ∷ l) h = refl
+pub leading-mark-read : (s : List ℕ) → 3 ≤ length s
+    → hasLeadingMark s ≡ (eqb (getD s 0 0) 0xEF && eqb (getD s 1 0) 0xBB && eqb (getD s 2 0) 0xBF)
+unfolding hasLeadingMark
+leading-mark-read [] h = absurd (omega arith)
+leading-mark-read (a ∷ []) h = absurd (omega arith)
+leading-mark-read (a ∷ b ∷ []) h = absurd (omega arith)
+leading-mark-read (a ∷ b ∷ c ∷ l) h = refl

@@ -5,7 +5,7 @@ ghost use mathlib.Core.Bool.{_&&_};
 ghost use Prim.Native.Nat.{_+_, _≤_};
 ghost use lib.ListN.{length};
 ghost use Rattle.protocol.specs.Octets.{is};
-ghost use Rattle.protocol.specs.Lines.{marked, skipped, placeAt, endingLength};
+ghost use Rattle.protocol.specs.Lines.{hasLeadingMark, skipped, placeAt, endingLength};
 ghost use Rattle.lines.specs.Spans.{lineAt};
 use protocol::Place;
 
@@ -17,8 +17,8 @@ pub struct Span {
 }
 
 // Whether a file begins with the leading mark EF BB BF.
-fn is_marked(file: &[u8]) -> bool
-    ensures { λ r. ⌜ r ≡ marked (now (file .entry)) ⌝ }
+fn has_leading_mark(file: &[u8]) -> bool
+    ensures { λ r. ⌜ r ≡ hasLeadingMark (now (file .entry)) ⌝ }
 {
     if file.len() < 3 {
         return false;
@@ -36,7 +36,7 @@ fn is_marked(file: &[u8]) -> bool
 pub fn first_place(file: &[u8]) -> Place
     ensures { λ r. ⌜ r ≡ placeAt (skipped (now (file .entry))) ⌝ }
 {
-    if is_marked(file) {
+    if has_leading_mark(file) {
         Place { offset: 3 }
     } else {
         Place { offset: 0 }

@@ -12,18 +12,18 @@ use Rattle.lists.proofs.Bools.{split, and-left, and-right}
 use Rattle.lists.proofs.Parts.{upTo-stop, upTo-on}
 use Rattle.lists.proofs.Fronts.{upTo-clear}
 use Rattle.protocol.specs.Octets.{hex, unreserved}
-use Rattle.protocol.specs.Normal.{encoded, meant, escape, isEscape, escapeAt, special, isEncoded, plain, piece, normal}
+use Rattle.protocol.specs.Normal.{encoded, meant, escape, isEscape, escapeAt, special, isEncoded, plain, replacement, normal}
 use Rattle.protocol.specs.Pattern.{isStar, firstRun, laterRuns}
-use Rattle.pieces.specs.Pieces.{taken}
-use Rattle.pieces.proofs.Sorts.{unreserved-not-star, hex-not-star, upper-not-star, digit-not-star}
-use Rattle.pieces.proofs.Forms.{no-percent, escape-hex}
-use Rattle.normal.proofs.Steps.{normal-cons, by-pieces}
+use Rattle.escapes.specs.Escapes.{taken}
+use Rattle.escapes.proofs.Sorts.{unreserved-not-star, hex-not-star, upper-not-star, digit-not-star}
+use Rattle.escapes.proofs.Forms.{no-percent, escape-hex}
+use Rattle.normal.proofs.Steps.{normal-cons, by-replacements}
 
 -- no star is among these octets
 abbrev Clear : List ℕ → Type 0
 Clear l = all (λ x. not (isStar x)) l ≡ true
 
--- a piece that doesn't stand for a star holds none
+-- a replacement that doesn't stand for a star holds none
 escape-clear : (d e : ℕ) → hex d ≡ true → hex e ≡ true → Clear (escape d e)
 unfolding escape all
 escape-clear d e h k =
@@ -35,11 +35,11 @@ unfolding plain encoded all
 plain-clear c h =
     split (isEncoded true c) (λ e. rw (e, digit-not-star (c / 16), digit-not-star (c % 16))) (λ e. rw (e, h))
 
-piece-clear : (c : ℕ) (l : List ℕ) → isStar c ≡ false → Clear (piece true c l)
-unfolding piece isEscape escapeAt all
-piece-clear c [] h = plain-clear c h
-piece-clear c (d ∷ []) h = plain-clear c h
-piece-clear c (d ∷ e ∷ l) h =
+replacement-clear : (c : ℕ) (l : List ℕ) → isStar c ≡ false → Clear (replacement true c l)
+unfolding replacement isEscape escapeAt all
+replacement-clear c [] h = plain-clear c h
+replacement-clear c (d ∷ []) h = plain-clear c h
+replacement-clear c (d ∷ e ∷ l) h =
     split (isEscape c (d ∷ e ∷ l)) (λ k. rw k (escape-clear d e (escape-hex c d e l k .0) (escape-hex c d e l k .1)))
     (λ k. rw k (plain-clear c h))
 
@@ -49,7 +49,7 @@ module _ (c : ℕ) (l : List ℕ) (s : isStar c ≡ true) where
   star-alone = no-percent c l (λ e. eqb-false (code "*") (code "%") refl (sym (eqb-true c (code "*") s) ∙ e))
 
   star-kept : normal true 0 (c ∷ l) ≡ c ∷ normal true 0 l
-  unfolding normal piece plain special
+  unfolding normal replacement plain special
   star-kept = rw star-alone (rw (eqb-true c (code "*") s))
 
   star-rest : drop (taken c l) (c ∷ l) ≡ l
@@ -71,9 +71,9 @@ cut-other c (d ∷ []) h = split (isStar d) (λ e. rw e) (λ e. rw e)
 cut-other c (d ∷ e ∷ l) h =
     split (isStar d) (λ s. rw s) (λ s. rw s (split (isStar e) (λ t. rw t) (λ t. rw t h)))
 
-cut-piece : (c : ℕ) (l : List ℕ) → piece true c (firstRun l) ≡ piece true c l
-unfolding piece
-cut-piece c l =
+cut-replacement : (c : ℕ) (l : List ℕ) → replacement true c (firstRun l) ≡ replacement true c l
+unfolding replacement
+cut-replacement c l =
     split (isEscape c l) (λ h. let k = cut-escape c l h in rw (h, k .0) (k .1 .0)) (λ h. rw (h, cut-other c l h))
 
 cut-rest : (c : ℕ) (l : List ℕ) → drop (taken c (firstRun l)) (c ∷ firstRun l) ≡ firstRun (drop (taken c l) (c ∷ l))
@@ -91,11 +91,11 @@ unfolding firstRun
 first-run-more c l h =
     split (isStar c) (λ s. rw (star-kept c l s, upTo-stop isStar c (normal true 0 l) s, upTo-stop isStar c l s) nothing)
     (λ s.
-    rw (normal-cons true c l, upTo-clear isStar (piece true c l) _ (piece-clear c l s), h, upTo-on isStar c l s, normal-cons true c (upTo isStar l), cut-piece c l, cut-rest c l))
+    rw (normal-cons true c l, upTo-clear isStar (replacement true c l) _ (replacement-clear c l s), h, upTo-on isStar c l s, normal-cons true c (upTo isStar l), cut-replacement c l, cut-rest c l))
 
 pub firstRun-normal : (raw : List ℕ) → firstRun (normal true 0 raw) ≡ normal true 0 (firstRun raw)
 unfolding firstRun normal upTo
-firstRun-normal = by-pieces (λ l. firstRun (normal true 0 l) ≡ normal true 0 (firstRun l)) refl first-run-more
+firstRun-normal = by-replacements (λ l. firstRun (normal true 0 l) ≡ normal true 0 (firstRun l)) refl first-run-more
 
 -- what holds no star has no part in the later runs
 runs-clear : (a b : List ℕ) → Clear a → laterRuns (a ++ b) ≡ laterRuns b
@@ -124,8 +124,8 @@ later-runs-more : (c : ℕ) (l : List ℕ)
     → laterRuns (normal true 0 (c ∷ l)) ≡ map (normal true 0) (laterRuns (c ∷ l))
 later-runs-more c l h =
     split (isStar c) (λ s. later-runs-star c l s (rw (star-rest c l s) at h))
-    (λ s. rw (normal-cons true c l, runs-clear (piece true c l) _ (piece-clear c l s), runs-on c l s) h)
+    (λ s. rw (normal-cons true c l, runs-clear (replacement true c l) _ (replacement-clear c l s), runs-on c l s) h)
 
 pub laterRuns-normal : (raw : List ℕ) → laterRuns (normal true 0 raw) ≡ map (normal true 0) (laterRuns raw)
 unfolding laterRuns normal
-laterRuns-normal = by-pieces (λ l. laterRuns (normal true 0 l) ≡ map (normal true 0) (laterRuns l)) refl later-runs-more
+laterRuns-normal = by-replacements (λ l. laterRuns (normal true 0 l) ≡ map (normal true 0) (laterRuns l)) refl later-runs-more

@@ -1,3 +1,3 @@
 pub mod Cuts
-pub mod Marks
+pub mod EndMarks
 mod Steps

@@ -31,13 +31,13 @@ pub fn write(stars: bool, s: &[u8], out: &mut [u8]) -> usize
     let mut i = 0;
     while i < s.len() {
         let x = s[i];
-        if pieces::is_kept(stars, x) {
+        if escapes::is_kept(stars, x) {
             out[n] = x;
             n += 1;
             i += 1;
         } else {
-            let p = pieces::changed_at(s, i);
-            n = pieces::put(p, out, n);
+            let p = escapes::changed_at(s, i);
+            n = escapes::put(p, out, n);
             i += p.taken;
         }
     }
@@ -51,7 +51,7 @@ fn size_within(stars: bool, s: &[u8], room: usize) -> Size
     let mut octets = 0;
     let mut i = 0;
     while i < s.len() {
-        let m = pieces::measure_at(stars, s, i);
+        let m = escapes::measure_at(stars, s, i);
         if room - octets < m.size {
             return Size {
                 fits: false,
@@ -104,7 +104,7 @@ pub fn weight_of(pattern: &[u8]) -> usize
     ensures { λ r. ⌜ r ≡ weight (shapeOf (now (pattern .entry))) ⌝ }
 {
     let end = text_length(pattern);
-    let marks = pattern.len() - end;
+    let end_marks = pattern.len() - end;
     let size = size_within(true, &pattern[..end], 0xFFFF_FFFF_FFFF_FFFF);
-    size.octets + marks
+    size.octets + end_marks
 }

@@ -11,7 +11,7 @@ use Rattle.lists.specs.Choice.{if_then_else_}
 use Rattle.lists.proofs.Bools.{split}
 use Rattle.protocol.specs.Octets.{unreserved}
 use Rattle.protocol.specs.Text.{begins, ends}
-use Rattle.protocol.specs.Normal.{encoded, meant, escape, isEscape, escapeAt, special, isEncoded, plain, piece, normal, normalPath}
+use Rattle.protocol.specs.Normal.{encoded, meant, escape, isEscape, escapeAt, special, isEncoded, plain, replacement, normal, normalPath}
 use Rattle.protocol.specs.Pattern.{rawText, shapeOf, weight}
 
 escape-size : (l : List ℕ) → length (escapeAt l) ≤ 3
@@ -25,9 +25,9 @@ unfolding plain encoded
 plain-size stars c =
     split (isEncoded stars c) (λ h. rw h (omega arith)) (λ h. rw h (omega arith))
 
-piece-size : (stars : Bool) (c : ℕ) (l : List ℕ) → length (piece stars c l) ≤ 3
-unfolding piece
-piece-size stars c l = split (isEscape c l) (λ h. rw h (escape-size l)) (λ h. rw h (plain-size stars c))
+replacement-size : (stars : Bool) (c : ℕ) (l : List ℕ) → length (replacement stars c l) ≤ 3
+unfolding replacement
+replacement-size stars c l = split (isEscape c l) (λ h. rw h (escape-size l)) (λ h. rw h (plain-size stars c))
 
 -- three octets for each
 pub normal-size : (stars : Bool) (n : ℕ) (l : List ℕ) → length (normal stars n l) ≤ 3 * length l
@@ -35,7 +35,7 @@ unfolding normal
 normal-size stars n [] = omega arith
 normal-size stars zero (c ∷ l) =
     let n : ℕ = if isEscape c l then 2 else 0 in
-    omega (arith, length-append (piece stars c l) (normal stars n l), piece-size stars c l, normal-size stars n l)
+    omega (arith, length-append (replacement stars c l) (normal stars n l), replacement-size stars c l, normal-size stars n l)
 normal-size stars (suc n) (c ∷ l) = omega (arith, normal-size stars n l)
 
 slash-plain : (l : List ℕ) → isEscape (code "/") l ≡ false
@@ -46,7 +46,7 @@ slash-plain (d ∷ e ∷ l) = refl
 
 -- A path that begins with "/" has at most three times its octets, less two: the "/" is one octet.
 pub path-size : (path : List ℕ) → begins "/" path ≡ true → length (normalPath path) + 2 ≤ 3 * length path
-unfolding begins normalPath normal piece plain special
+unfolding begins normalPath normal replacement plain special
 path-size [] h = absurd (false≢true h)
 path-size (c ∷ l) h = rw (eqb-true c (code "/") h, slash-plain l) (omega (arith, normal-size false 0 l))
 
@@ -61,11 +61,11 @@ last-gone (c ∷ []) h = omega arith
 last-gone (c ∷ d ∷ l) h = omega (arith, last-gone (d ∷ l) h)
 
 -- an end mark is one octet
-pub mark-length : (raw : List ℕ) → length (rawText raw) + (if ends "$" raw then 1 else 0) ≡ length raw
+pub end-mark-length : (raw : List ℕ) → length (rawText raw) + (if ends "$" raw then 1 else 0) ≡ length raw
 unfolding rawText
-mark-length raw = split (ends "$" raw) (λ h. rw h (last-gone raw h)) (λ h. rw h (omega arith))
+end-mark-length raw = split (ends "$" raw) (λ h. rw h (last-gone raw h)) (λ h. rw h (omega arith))
 
 -- A pattern weighs at most three times its raw octets.
 pub weight-size : (raw : List ℕ) → weight (shapeOf raw) ≤ 3 * length raw
 unfolding weight shapeOf
-weight-size raw = omega (arith, normal-size true 0 (rawText raw), mark-length raw)
+weight-size raw = omega (arith, normal-size true 0 (rawText raw), end-mark-length raw)

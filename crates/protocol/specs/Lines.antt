@@ -49,15 +49,15 @@ linesFrom n p (c ∷ l) =
     put n p c lf (linesFrom (if closes c lf then n + 1 else n) (p + 1) l)
 
 -- "If the file starts with EF BB BF": the leading mark
-unfoldable pub marked : List ℕ → Bool
-marked [] = false
-marked (a ∷ []) = false
-marked (a ∷ b ∷ []) = false
-marked (a ∷ b ∷ c ∷ l) = eqb a 0xEF && eqb b 0xBB && eqb c 0xBF
+unfoldable pub hasLeadingMark : List ℕ → Bool
+hasLeadingMark [] = false
+hasLeadingMark (a ∷ []) = false
+hasLeadingMark (a ∷ b ∷ []) = false
+hasLeadingMark (a ∷ b ∷ c ∷ l) = eqb a 0xEF && eqb b 0xBB && eqb c 0xBF
 
 -- "those three octets are skipped but keep their places"
 abbrev pub skipped : List ℕ → ℕ
-skipped file = if marked file then 3 else 0
+skipped file = if hasLeadingMark file then 3 else 0
 
 unfoldable pub linesOf : List ℕ → List Line
 linesOf file = linesFrom 1 (skipped file) (drop (skipped file) file)

@@ -43,13 +43,13 @@ unfoldable pub plain : Bool → ℕ → List ℕ
 plain stars x = if isEncoded stars x then encoded x else x ∷ []
 
 -- what stands for the octet c, with l behind it, and for the digits of its escape
-unfoldable pub piece : Bool → ℕ → List ℕ → List ℕ
-piece stars c l = if isEscape c l then escapeAt l else plain stars c
+unfoldable pub replacement : Bool → ℕ → List ℕ → List ℕ
+replacement stars c l = if isEscape c l then escapeAt l else plain stars c
 
 -- the first n octets belong to an escape that is done
 unfoldable pub normal : Bool → ℕ → List ℕ → List ℕ
 normal stars n [] = []
-normal stars zero (c ∷ l) = piece stars c l ++ normal stars (if isEscape c l then 2 else 0) l
+normal stars zero (c ∷ l) = replacement stars c l ++ normal stars (if isEscape c l then 2 else 0) l
 normal stars (suc n) (c ∷ l) = normal stars n l
 
 -- a path, in which "*" is no star

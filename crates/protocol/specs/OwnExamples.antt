@@ -25,8 +25,8 @@ use Rattle.protocol.specs.Program.{output}
 use Rattle.protocol.specs.Examples.{allow, disallow, refused, Row, lines, rowIn, row}
 
 -- "EF BB BF"
-abbrev pub mark : List ℕ
-mark = 0xEF ∷ 0xBB ∷ 0xBF ∷ []
+abbrev pub leadingMark : List ℕ
+leadingMark = 0xEF ∷ 0xBB ∷ 0xBF ∷ []
 
 -- Deciding
 unfoldable pub ourTable : List Row
@@ -39,7 +39,7 @@ ourTable =
     ∷ row "user-agent: *|disallow: /a|disallow: /a" "a" "/a" (disallow 2 0 4)
     -- weight is of the normalised pattern
     ∷ row "user-agent: *|allow: /%41%41|disallow: /AAA" "a" "/AAAx" (disallow 3 0 7)
-    -- a star weighs one, and so does the end mark
+    -- a star weighs one, and so does the end leadingMark
     ∷ row "user-agent: *|disallow: /ab|allow: /a*" "a" "/ab" (allow 3 0 5)
     ∷ row "user-agent: *|allow: /ab|disallow: /a*" "a" "/ab" (allow 2 0 5)
     ∷ row "user-agent: *|allow: /ab|disallow: /ab$" "a" "/ab" (disallow 3 0 6)
@@ -81,9 +81,9 @@ ourTable =
     ∷ row "user-agent: a|\rdisallow: /" "a" "/" (disallow 3 0 1)
     ∷ row "user-agent: a\rdisallow: /" "a" "/" (disallow 2 0 1)
     -- a leading mark is skipped, once
-    ∷ rowIn (mark ++ lines "user-agent: a|disallow: /") "a" "/" (disallow 2 0 1)
-    ∷ rowIn (mark ++ mark ++ lines "user-agent: a|disallow: /") "a" "/" (allow 0 0 0)
-    ∷ rowIn mark "a" "/" (allow 0 0 0)
+    ∷ rowIn (leadingMark ++ lines "user-agent: a|disallow: /") "a" "/" (disallow 2 0 1)
+    ∷ rowIn (leadingMark ++ leadingMark ++ lines "user-agent: a|disallow: /") "a" "/" (allow 0 0 0)
+    ∷ rowIn leadingMark "a" "/" (allow 0 0 0)
     ∷ rowIn ((0xEF ∷ 0x20 ∷ 0x20 ∷ []) ++ lines "user-agent: a|disallow: /") "a" "/" (allow 0 0 0)
     ∷ rowIn ((0x20 ∷ 0x20 ∷ 0xBF ∷ []) ++ lines "user-agent: a|disallow: /") "a" "/" (allow 0 0 0)
     -- comments, spaces and tabs
@@ -172,7 +172,7 @@ entryNumbers e = e .line .number ∷ e .group ∷ roleNumber (e .role) ∷ e .pl
 
 unfoldable pub entriesFile : List ℕ
 entriesFile =
-    mark
+    leadingMark
     ++ lines "allow: /x|"
     ++ lines "user-agent: a|"
     ++ lines "User-Agent:|"
@@ -231,7 +231,7 @@ span r = record { place = r .place; length = r .length }
 unfoldable pub ourSpans : List Located
 ourSpans =
     located (lines "user-agent: *|disallow:  /%41$ |") "/A" 25 5
-    ∷ located (mark ++ lines "user-agent: *\r|disallow: /a") "/a" 28 2
+    ∷ located (leadingMark ++ lines "user-agent: *\r|disallow: /a") "/a" 28 2
     ∷ located (lines "user-agent: *|disallow:") "/a" 0 0
     ∷ located (lines "user-agent: *|disallow: /b") "/a" 0 0
     ∷ located (lines "user-agent: *|disallow: /a") "a" 0 0
@@ -304,7 +304,7 @@ ourLines =
     ∷ lineRow (octets "allow:/" ++ (0xF0 ∷ 0xC0 ∷ 0x80 ∷ 0x80 ∷ [])) 0 8 6 5
     ∷ lineRow (octets "allow:/" ++ (0xF4 ∷ 0x7F ∷ 0x80 ∷ 0x80 ∷ [])) 0 8 6 5
     -- no leading mark is skipped, and padding is no part of a field name
-    ∷ lineRow (mark ++ octets "allow: /") 0 3 0 0
+    ∷ lineRow (leadingMark ++ octets "allow: /") 0 3 0 0
     ∷ lineRow (octets "allow\0\0\0\0\0: /") 0 3 0 0
     ∷ lineRow (octets "allow: /\n") 9 0 0 0
     ∷ lineRow (octets "# \r") 9 0 0 0

@@ -1,5 +1,5 @@
 mod Cuts
 mod Literal
-mod Marked
+mod EndMarks
 pub mod Scratch
 mod Weighing

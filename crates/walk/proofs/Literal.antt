@@ -12,7 +12,7 @@ use Rattle.lists.specs.Lists.{empty, all, upTo}
 use Rattle.lists.proofs.Bools.{split, and-left, and-right}
 use Rattle.protocol.specs.Octets.{is}
 use Rattle.protocol.specs.Text.{ends}
-use Rattle.protocol.specs.Normal.{isEscape, special, plain, piece, normal}
+use Rattle.protocol.specs.Normal.{isEscape, special, plain, replacement, normal}
 use Rattle.protocol.specs.Pattern.{rawText, shapeOf, weight, firstRun, laterRuns}
 use Rattle.protocol.specs.Walk.{first, later, walkRuns, walk}
 use Rattle.text.specs.Parts.{among}
@@ -51,7 +51,7 @@ record Literal (l : List ℕ) : Type 0 where
   later-none : laterRuns l ≡ []
 
 literal-known : (l : List ℕ) → all literal l ≡ true → Literal l
-unfolding all normal piece ends firstRun laterRuns upTo
+unfolding all normal replacement ends firstRun laterRuns upTo
 literal-known [] h = record { normal-kept = refl; unmarked = refl; first-whole = refl; later-none = refl }
 literal-known (x ∷ l) h =
     let p : literal x ≡ true = and-left (literal x) (all literal l) h in

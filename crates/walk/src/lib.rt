@@ -47,23 +47,23 @@ fn later_raw(run: &[u8], path: &[u8], last: bool, w: Walked, scratch: &mut [u8])
 }
 
 // A run is the end-marked last one if the pattern has an end mark and no star is behind the run.
-fn is_last(marked: bool, end: usize, size: usize) -> bool
-    ensures { λ r. ⌜ r ≡ (marked && eqb end size) ⌝ }
+fn is_last(anchored: bool, end: usize, size: usize) -> bool
+    ensures { λ r. ⌜ r ≡ (anchored && eqb end size) ⌝ }
 {
-    if marked { end == size } else { false }
+    if anchored { end == size } else { false }
 }
 
 // The walk of a raw pattern without its end mark.
-fn walk_text(text: &[u8], marked: bool, path: &[u8], scratch: &mut [u8]) -> Walked
-    requires { ⌜ (length (now path) ≤ length (now scratch)) × (walkText marked (now text) (now path) .count < 2 ^ 64) ⌝ }
-    ensures { λ r. ⌜ r ≡ walkText marked (now (text .entry)) (now (path .entry)) ⌝ }
-    ensures { λ _. ⌜ now (scratch .exit) ≡ scratchText marked (now (text .entry)) (now (path .entry)) (now (scratch .entry)) ⌝ }
+fn walk_text(text: &[u8], anchored: bool, path: &[u8], scratch: &mut [u8]) -> Walked
+    requires { ⌜ (length (now path) ≤ length (now scratch)) × (walkText anchored (now text) (now path) .count < 2 ^ 64) ⌝ }
+    ensures { λ r. ⌜ r ≡ walkText anchored (now (text .entry)) (now (path .entry)) ⌝ }
+    ensures { λ _. ⌜ now (scratch .exit) ≡ scratchText anchored (now (text .entry)) (now (path .entry)) (now (scratch .entry)) ⌝ }
 {
     let mut end = text::find(text, b'*');
     let mut w = first_raw(
         &text[..end],
         path,
-        is_last(marked, end, text.len()),
+        is_last(anchored, end, text.len()),
         scratch,
     );
     while end < text.len() {
@@ -75,7 +75,7 @@ fn walk_text(text: &[u8], marked: bool, path: &[u8], scratch: &mut [u8]) -> Walk
         w = later_raw(
             &text[start..end],
             path,
-            is_last(marked, end, text.len()),
+            is_last(anchored, end, text.len()),
             w,
             scratch,
         );
@@ -90,8 +90,8 @@ pub fn walk_pattern(pattern: &[u8], path: &[u8], scratch: &mut [u8]) -> Walked
     ensures { λ _. ⌜ now (scratch .exit) ≡ walkScratch (now (pattern .entry)) (now (path .entry)) (now (scratch .entry)) ⌝ }
 {
     let end = normal::text_length(pattern);
-    let marked = end < pattern.len();
-    walk_text(&pattern[..end], marked, path, scratch)
+    let anchored = end < pattern.len();
+    walk_text(&pattern[..end], anchored, path, scratch)
 }
 
 // What a walk found, for a pattern of that weight.

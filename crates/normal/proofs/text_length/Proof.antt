@@ -2,13 +2,13 @@
 use mathlib.Core.Path.{_∙_}
 use native.Mathlib.Omega.{arith}
 use borrow.Author.Needs.{needs}
-use Rattle.protocol.proofs.Sizes.{mark-length}
-use Rattle.normal.proofs.Marks.{mark-sought}
+use Rattle.protocol.proofs.Sizes.{end-mark-length}
+use Rattle.normal.proofs.EndMarks.{end-mark-sought}
 use Rattle.normal.proofs.text_length.Statement.{statement}
 use Rattle.normal.proofs.text_length.Tie as tie
 
 returns : tie.Need-returns
-returns c = omega (arith, mark-length (c .before .before .args .pattern .now))
+returns c = omega (arith, end-mark-length (c .before .before .args .pattern .now))
 
 sub-last : tie.Need-sub-last
 sub-last c = search needs
@@ -17,7 +17,7 @@ seek-requires : tie.Need-seek-requires
 seek-requires c κs = search needs
 
 returns-2 : tie.Need-returns-2
-returns-2 c = c .seek .ensures ∙ mark-sought (c .before .before .before .args .pattern .now) (omega arith)
+returns-2 c = c .seek .ensures ∙ end-mark-sought (c .before .before .before .args .pattern .now) (omega arith)
 
 pub text-length-spec : {M : Type 1} → statement M
 text-length-spec = tie.close (tie.spec returns sub-last seek-requires returns-2)

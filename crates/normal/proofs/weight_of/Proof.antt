@@ -8,18 +8,18 @@ use lib.ListN.{length, take}
 use borrow.Author.Tests.{le-leb}
 use Rattle.protocol.specs.Normal.{normal}
 use Rattle.protocol.specs.Pattern.{rawText}
-use Rattle.protocol.proofs.Sizes.{mark-length}
+use Rattle.protocol.proofs.Sizes.{end-mark-length}
 use Rattle.normal.specs.declared.Size.{Size}
 use Rattle.normal.specs.Sizes.{sizeWithin}
-use Rattle.normal.proofs.Marks.{text-front, weight-parts}
+use Rattle.normal.proofs.EndMarks.{text-front, weight-parts}
 use Rattle.normal.proofs.weight_of.Statement.{statement}
 use Rattle.normal.proofs.weight_of.Tie as tie
 
 text-length-requires : tie.Need-text-length-requires
 text-length-requires c κs = tt
 
-sub-marks : tie.Need-sub-marks
-sub-marks c = omega (arith, c .text-length .ensures, mark-length (c .before .before .args .pattern .now))
+sub-end-marks : tie.Need-sub-end-marks
+sub-end-marks c = omega (arith, c .text-length .ensures, end-mark-length (c .before .before .args .pattern .now))
 
 -- the part that is measured
 text : (c : tie.After-text-length) → take (c .text-length .result) (c .before .before .args .pattern .now) ≡ rawText (c .before .before .args .pattern .now)
@@ -55,7 +55,7 @@ weight-of-spec =
     tie.close
     (tie.spec
     text-length-requires
-    sub-marks
+    sub-end-marks
     slice-aggregate-size-within
     size-within-requires
     add-result

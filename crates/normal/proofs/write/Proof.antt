@@ -6,9 +6,9 @@ use lib.ListN.{length, drop, getD, length-set}
 use lib.Seq.{sets}
 use Rattle.lists.proofs.Fronts.{sets-front}
 use Rattle.protocol.specs.Normal.{normal}
-use Rattle.pieces.specs.declared.Piece.{Piece}
-use Rattle.pieces.specs.Pieces.{PieceAt}
-use Rattle.pieces.proofs.Forms.{alone, piece-kept, piece-changed, measureOf, measured}
+use Rattle.escapes.specs.declared.Replacement.{Replacement}
+use Rattle.escapes.specs.Escapes.{ReplacementAt}
+use Rattle.escapes.proofs.Forms.{alone, replacement-kept, replacement-changed, measureOf, measured}
 use Rattle.normal.proofs.Steps.{Turn, normal-end, turn, store-on}
 use Rattle.normal.proofs.write.Statement.{statement}
 use Rattle.normal.proofs.write.Tie as tie
@@ -31,33 +31,33 @@ shared-slice-read-x c = omega arith
 is-kept-requires : tie.Need-is-kept-requires Inv-loop μ-loop
 is-kept-requires c κs = tt
 
--- a piece at the loop's place, and its turn
-abbrev Here : tie.At-loop Inv-loop μ-loop → Piece → Type 0
+-- a replacement at the loop's place, and its turn
+abbrev Here : tie.At-loop Inv-loop μ-loop → Replacement → Type 0
 Here s p =
-    let a = s .before .before .before .args in PieceAt (a .stars) (getD (a .s .now) (s .loop .i) 0) (drop (s .loop .i + 1) (a .s .now)) p
+    let a = s .before .before .before .args in ReplacementAt (a .stars) (getD (a .s .now) (s .loop .i) 0) (drop (s .loop .i + 1) (a .s .now)) p
 
-abbrev Turns : tie.At-loop Inv-loop μ-loop → Piece → Type 0
+abbrev Turns : tie.At-loop Inv-loop μ-loop → Replacement → Type 0
 Turns s p = let a = s .before .before .before .args in Turn (a .stars) (a .s .now) (s .loop .i) (measureOf p)
 
-turns : (c : tie.In-loop Inv-loop μ-loop) (p : Piece) → Here (c .before) p → Turns (c .before) p
+turns : (c : tie.In-loop Inv-loop μ-loop) (p : Replacement) → Here (c .before) p → Turns (c .before) p
 turns c p h =
     let s = c .before in
     let a = s .before .before .before .args in
     turn (a .stars) (a .s .now) (s .loop .i) (omega arith) (measureOf p) (measured _ _ _ p h)
 
 -- the octet that stays
-abbrev octet : tie.At-loop Inv-loop μ-loop → Piece
+abbrev octet : tie.At-loop Inv-loop μ-loop → Replacement
 octet s = alone (getD (s .before .before .before .args .s .now) (s .loop .i) 0)
 
 kept : (c : tie.Then1 Inv-loop μ-loop) → Here (c .before .before .before .before) (octet (c .before .before .before .before))
-kept c = piece-kept _ _ _ (sym (c .before .is-kept .ensures) ∙ c .if1 .taken)
+kept c = replacement-kept _ _ _ (sym (c .before .is-kept .ensures) ∙ c .if1 .taken)
 
 kept-turn : (c : tie.Then1 Inv-loop μ-loop) → Turns (c .before .before .before .before) (octet (c .before .before .before .before))
 kept-turn c = turns (c .before .before .before) (octet (c .before .before .before .before)) (kept c)
 
 -- what stands for one that doesn't
 changed : (c : tie.After-changed-at Inv-loop μ-loop) → Here (c .before .before .before .before .before) (c .changed-at .result)
-changed c = piece-changed _ _ _ _ (sym (c .before .before .is-kept .ensures) ∙ c .before .if1 .left) (c .changed-at .ensures)
+changed c = replacement-changed _ _ _ _ (sym (c .before .before .is-kept .ensures) ∙ c .before .if1 .left) (c .changed-at .ensures)
 
 changed-turn : (c : tie.After-changed-at Inv-loop μ-loop) → Turns (c .before .before .before .before .before) (c .changed-at .result)
 changed-turn c = turns (c .before .before .before .before) (c .changed-at .result) (changed c)

@@ -4,8 +4,8 @@ use native.Mathlib.Omega.{arith}
 use borrow.Author.Needs.{needs}
 use Rattle.protocol.specs.Pattern.{shapeOf}
 use Rattle.protocol.proofs.Counted.{walk-bound}
-use Rattle.normal.proofs.Marks.{text-front}
-use Rattle.walk.proofs.Marked.{pattern-walk, pattern-scratch}
+use Rattle.normal.proofs.EndMarks.{text-front}
+use Rattle.walk.proofs.EndMarks.{pattern-walk, pattern-scratch}
 use Rattle.walk.proofs.walk_pattern.Statement.{statement}
 use Rattle.walk.proofs.walk_pattern.Tie as tie
 

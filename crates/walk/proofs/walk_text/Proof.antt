@@ -21,15 +21,15 @@ use Rattle.walk.proofs.walk_text.Statement.{statement}
 use Rattle.walk.proofs.walk_text.Tie as tie
 
 abbrev Inv-loop : tie.InvT-loop
-Inv-loop text marked path scratch₀ end₀ w₀ scratch end w =
+Inv-loop text endMark path scratch₀ end₀ w₀ scratch end w =
     (end ≤ length text)
     × (w .past ≤ length path)
     × (length scratch ≡ length scratch₀)
     × (end < length text → isStar (getD text end 0) ≡ true)
-    × (outcomeFrom marked (drop end text) path w scratch ≡ outcomeFrom marked (drop end₀ text) path w₀ scratch₀)
+    × (outcomeFrom endMark (drop end text) path w scratch ≡ outcomeFrom endMark (drop end₀ text) path w₀ scratch₀)
 
 abbrev μ-loop : tie.MeasureT-loop
-μ-loop text marked path scratch₀ end₀ w₀ scratch end w = length text - end
+μ-loop text endMark path scratch₀ end₀ w₀ scratch end w = length text - end
 
 find-requires : tie.Need-find-requires Inv-loop μ-loop
 find-requires c κs = tt
@@ -54,13 +54,13 @@ begun : (c : tie.After-slice-known2 Inv-loop μ-loop)
     → let s = c .before .before in
     let f = s .before .before .before .before in
     let a = f .before .before .before .before .args in
-    outcomeFrom (a .marked) (drop (f .find .result) (a .text .now)) (a .path .now) (s .first-raw .result) (s .first-raw .last .1 .1 .1 .0)
-    ≡ outcome (a .marked) (a .text .now) (a .path .now) (a .scratch .now)
+    outcomeFrom (a .anchored) (drop (f .find .result) (a .text .now)) (a .path .now) (s .first-raw .result) (s .first-raw .last .1 .1 .1 .0)
+    ≡ outcome (a .anchored) (a .text .now) (a .path .now) (a .scratch .now)
 begun c =
     let s = c .before .before in
     let f = s .before .before .before .before in
     let a = f .before .before .before .before .args in
-    walk-start (a .marked) (a .text .now) (a .path .now) (f .find .result) (s .before .before .is-last .result) (s .first-raw .result) (a .scratch .now)
+    walk-start (a .anchored) (a .text .now) (a .path .now) (f .find .result) (s .before .before .is-last .result) (s .first-raw .result) (a .scratch .now)
     (s .first-raw .last .1 .1 .1 .0) (opened f) (s .before .before .is-last .ensures) (s .first-raw .ensures .0) (s .first-raw .ensures .1)
 
 loop-holds : tie.Need-loop-holds Inv-loop μ-loop
@@ -79,8 +79,8 @@ same c = c .loop .inv .2 ∙ c .before .before .before .first-raw .kept .1 .1 .1
 -- what is left gives the whole
 gives : (c : tie.At-loop Inv-loop μ-loop)
     → let a = c .before .before .before .before .before .before .before .before .before .before .before .args in
-    outcomeFrom (a .marked) (drop (c .loop .end) (a .text .now)) (a .path .now) (c .loop .w) (c .loop .scratch)
-    ≡ outcome (a .marked) (a .text .now) (a .path .now) (a .scratch .now)
+    outcomeFrom (a .anchored) (drop (c .loop .end) (a .text .now)) (a .path .now) (c .loop .w) (c .loop .scratch)
+    ≡ outcome (a .anchored) (a .text .now) (a .path .now) (a .scratch .now)
 gives c = c .loop .inv .4 ∙ begun (c .before)
 
 same-length : tie.Need-same-length Inv-loop μ-loop
@@ -90,7 +90,7 @@ returns : tie.Need-returns Inv-loop μ-loop
 returns c =
     let s = c .before .before .before in
     let a = s .before .before .before .before .before .before .before .before .before .before .before .args in
-    both (sym (walk-kept (a .marked) (drop (s .loop .end) (a .text .now)) (a .path .now) (s .loop .w) (s .loop .scratch) (not-true _ (c .if1 .taken))) ∙ gives s)
+    both (sym (walk-kept (a .anchored) (drop (s .loop .end) (a .text .now)) (a .path .now) (s .loop .w) (s .loop .scratch) (not-true _ (c .if1 .taken))) ∙ gives s)
 
 add-start : tie.Need-add-start Inv-loop μ-loop
 add-start c = omega arith
@@ -142,13 +142,13 @@ goes-on : (c : tie.After-is-last2 Inv-loop μ-loop) (v : Walked) (m : List ℕ)
     let f = k + c .before .before .find2 .result in
     v ≡ next (c .is-last2 .result) (normalRun (take (f - k) (drop k (a .text .now)))) (a .path .now) (s .loop .w)
     → m ≡ runScratch (take (f - k) (drop k (a .text .now))) (s .loop .scratch)
-    → outcomeFrom (a .marked) (drop f (a .text .now)) (a .path .now) v m
-    ≡ outcomeFrom (a .marked) (drop (s .loop .end) (a .text .now)) (a .path .now) (s .loop .w) (s .loop .scratch)
+    → outcomeFrom (a .anchored) (drop f (a .text .now)) (a .path .now) v m
+    ≡ outcomeFrom (a .anchored) (drop (s .loop .end) (a .text .now)) (a .path .now) (s .loop .w) (s .loop .scratch)
 goes-on c v m v-is m-is =
     let s = c .before .before .before .before .before .before .before in
     let a = s .before .before .before .before .before .before .before .before .before .before .before .args in
     let l : s .loop .end < length (a .text .now) = omega arith in
-    walk-turn (a .marked) (a .text .now) (a .path .now) (s .loop .end) (s .loop .end + 1 + c .before .before .find2 .result) (c .is-last2 .result)
+    walk-turn (a .anchored) (a .text .now) (a .path .now) (s .loop .end) (s .loop .end + 1 + c .before .before .find2 .result) (c .is-last2 .result)
     (s .loop .w) v (s .loop .scratch) m l (s .loop .inv .3 l) (not-false _ (c .before .before .before .before .if1 .left)) (turned (c .before .before)) (c .is-last2 .ensures) v-is m-is
 
 later-raw-requires : tie.Need-later-raw-requires Inv-loop μ-loop
@@ -165,7 +165,7 @@ later-raw-requires c κs =
       omega (arith, same s, p .pre .0),
       not-false _ (i .before .before .before .before .if1 .left),
       s .loop .inv .1,
-      omega (arith, p .pre .1, later-costs (a .marked) (runsOf (drop f (a .text .now))) (a .path .now) v .0, ap (λ (w : Walked). w .count) (both e .0)),
+      omega (arith, p .pre .1, later-costs (a .anchored) (runsOf (drop f (a .text .now))) (a .path .now) v .0, ap (λ (w : Walked). w .count) (both e .0)),
     )
 
 loop-less : tie.Need-loop-less Inv-loop μ-loop
@@ -193,7 +193,7 @@ returns-2 : tie.Need-returns-2 Inv-loop μ-loop
 returns-2 c =
     let s = c .before in
     let a = s .before .before .before .before .before .before .before .before .before .before .before .args in
-    both (sym (walk-over (a .marked) (a .text .now) (a .path .now) (s .loop .end) (s .loop .w) (s .loop .scratch) (c .loop-test .left)) ∙ gives s)
+    both (sym (walk-over (a .anchored) (a .text .now) (a .path .now) (s .loop .end) (s .loop .w) (s .loop .scratch) (c .loop-test .left)) ∙ gives s)
 
 pub walk-text-spec : {M : Type 1} → statement M
 walk-text-spec =

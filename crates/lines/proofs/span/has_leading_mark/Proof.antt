@@ -1,0 +1,46 @@
+-- `lines::span::has_leading_mark` meets its contract. Assumes nothing.
+use mathlib.Core.Path.{sym}
+use native.Mathlib.Omega.{arith}
+use borrow.Author.Tests.{eq-eqb, ne-eqb}
+use Rattle.lines.proofs.Endings.{leading-mark-short, leading-mark-read}
+use Rattle.lines.proofs.span.has_leading_mark.Statement.{statement}
+use Rattle.lines.proofs.span.has_leading_mark.Tie as tie
+
+returns : tie.Need-returns
+returns c = sym (leading-mark-short (c .before .args .file .now) (omega arith))
+
+shared-slice-read-if2 : tie.Need-shared-slice-read-if2
+shared-slice-read-if2 c = omega arith
+
+returns-2 : tie.Need-returns-2
+returns-2 c =
+    let file = c .before .before .before .args .file .now in
+    rw (leading-mark-read file (omega arith), ne-eqb _ 0xEF (c .if2 .taken))
+
+shared-slice-read-if3 : tie.Need-shared-slice-read-if3
+shared-slice-read-if3 c = omega arith
+
+returns-3 : tie.Need-returns-3
+returns-3 c =
+    let file = c .before .before .before .before .before .args .file .now in
+    rw (leading-mark-read file (omega arith), eq-eqb _ 0xEF (c .before .before .if2 .left), ne-eqb _ 0xBB (c .if3 .taken))
+
+shared-slice-read-result : tie.Need-shared-slice-read-result
+shared-slice-read-result c = omega arith
+
+returns-4 : tie.Need-returns-4
+returns-4 c =
+    let file = c .before .before .before .before .before .before .args .file .now in
+    rw (leading-mark-read file (omega arith), eq-eqb _ 0xEF (c .before .before .before .if2 .left), eq-eqb _ 0xBB (c .before .if3 .left))
+
+pub has-leading-mark-spec : {M : Type 1} → statement M
+has-leading-mark-spec =
+    tie.close
+    (tie.spec
+    returns
+    shared-slice-read-if2
+    returns-2
+    shared-slice-read-if3
+    returns-3
+    shared-slice-read-result
+    returns-4)
