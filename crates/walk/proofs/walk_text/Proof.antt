@@ -1,10 +1,11 @@
 -- `walk::walk_text` meets its contract: the walk of what is left of the text gives the whole walk's outcome. Assumes nothing.
 use Prim.Native.Nat.{ℕ, _≤_, _<_, _-_, _+_}
 use mathlib.Core.Path.{_≡_, refl, sym, ap, _∙_}
-use mathlib.Core.Bool.{true}
+use mathlib.Core.Bool.{Bool, true, _&&_}
 use mathlib.Core.List.{List}
 use native.Mathlib.Omega.{arith}
 use native.Mathlib.Nat.{zero-add}
+use lib.Dec.{eqb}
 use lib.ListN.{length, take, drop, getD}
 use lib.Seq.{length-take-le}
 use borrow.Author.Tests.{not-true, not-false}
@@ -34,11 +35,14 @@ abbrev μ-loop : tie.MeasureT-loop
 find-requires : tie.Need-find-requires Inv-loop μ-loop
 find-requires c κs = tt
 
--- the first run's end
-opened : (c : tie.After-find Inv-loop μ-loop) → RunEnd (c .before .before .before .before .args .text .now) 0 (c .find .result)
-unfolding firstRun
-opened c =
-    run-end (c .before .before .before .before .args .text .now) 0 (c .find .result) (omega arith) (c .find .ensures ∙ sym (zero-add _))
+module _ (c : tie.After-find Inv-loop μ-loop) where
+  abbrev entry : tie.Start Inv-loop μ-loop
+  entry = c .before .before .before .before
+
+  -- the first run's end
+  opened : RunEnd (entry .args .text .now) 0 (c .find .result)
+  unfolding firstRun
+  opened = run-end (entry .args .text .now) 0 (c .find .result) (omega arith) (c .find .ensures ∙ sym (zero-add _))
 
 slice-aggregate-first-raw : tie.Need-slice-aggregate-first-raw Inv-loop μ-loop
 slice-aggregate-first-raw c = sym (length-take-le _ _ (opened (c .before) .within))
@@ -47,41 +51,40 @@ is-last-requires : tie.Need-is-last-requires Inv-loop μ-loop
 is-last-requires c κs = tt
 
 first-raw-requires : tie.Need-first-raw-requires Inv-loop μ-loop
-first-raw-requires c κs = c .before .before .before .before .before .before .before .pre .0
-
--- the walk from the first run on
-begun : (c : tie.After-slice-known2 Inv-loop μ-loop)
-    → let s = c .before .before in
-    let f = s .before .before .before .before in
-    let a = f .before .before .before .before .args in
-    outcomeFrom (a .anchored) (drop (f .find .result) (a .text .now)) (a .path .now) (s .first-raw .result) (s .first-raw .last .1 .1 .1 .0)
-    ≡ outcome (a .anchored) (a .text .now) (a .path .now) (a .scratch .now)
-begun c =
-    let s = c .before .before in
-    let f = s .before .before .before .before in
-    let a = f .before .before .before .before .args in
-    walk-start (a .anchored) (a .text .now) (a .path .now) (f .find .result) (s .before .before .is-last .result) (s .first-raw .result) (a .scratch .now)
-    (s .first-raw .last .1 .1 .1 .0) (opened f) (s .before .before .is-last .ensures) (s .first-raw .ensures .0) (s .first-raw .ensures .1)
+first-raw-requires c κs = entry (c .before .before .before) .pre .0
 
 loop-holds : tie.Need-loop-holds Inv-loop μ-loop
 loop-holds c =
-    let s = c .before .before in
-    let f = s .before .before .before .before in
-    let a = f .before .before .before .before .args in
-    let o = opened f in
-    (o .within, rw (s .first-raw .ensures .0) (first-within _ _ _), refl, o .stop, refl)
+    let r = c .before .before in
+    let o = opened (r .before .before .before .before) in
+    (o .within, rw (r .first-raw .ensures .0) (first-within _ _ _), refl, o .stop, refl)
 
--- the scratch keeps its length
-same : (c : tie.At-loop Inv-loop μ-loop)
-    → length (c .loop .scratch) ≡ length (c .before .before .before .before .before .before .before .before .before .before .before .args .scratch .now)
-same c = c .loop .inv .2 ∙ c .before .before .before .first-raw .kept .1 .1 .1 .0
+module _ (c : tie.At-loop Inv-loop μ-loop) where
+  abbrev walked : tie.After-first-raw Inv-loop μ-loop
+  walked = c .before .before .before
 
--- what is left gives the whole
-gives : (c : tie.At-loop Inv-loop μ-loop)
-    → let a = c .before .before .before .before .before .before .before .before .before .before .before .args in
-    outcomeFrom (a .anchored) (drop (c .loop .end) (a .text .now)) (a .path .now) (c .loop .w) (c .loop .scratch)
-    ≡ outcome (a .anchored) (a .text .now) (a .path .now) (a .scratch .now)
-gives c = c .loop .inv .4 ∙ begun (c .before)
+  abbrev start : tie.Start Inv-loop μ-loop
+  start = entry (walked .before .before .before .before)
+
+  abbrev text : List ℕ
+  text = start .args .text .now
+
+  abbrev path : List ℕ
+  path = start .args .path .now
+
+  abbrev endMark : Bool
+  endMark = start .args .anchored
+
+  -- the scratch keeps its length
+  same : length (c .loop .scratch) ≡ length (start .args .scratch .now)
+  same = c .loop .inv .2 ∙ walked .first-raw .kept .1 .1 .1 .0
+
+  -- what is left gives the whole
+  gives : outcomeFrom endMark (drop (c .loop .end) text) path (c .loop .w) (c .loop .scratch) ≡ outcome endMark text path (start .args .scratch .now)
+  gives =
+      let i = walked .before .before in
+      let r = walked .first-raw in
+      c .loop .inv .4 ∙ walk-start endMark text path _ (i .is-last .result) (r .result) _ _ (opened (i .before .before)) (i .is-last .ensures) (r .ensures .0) (r .ensures .1)
 
 same-length : tie.Need-same-length Inv-loop μ-loop
 same-length c = same (c .before .before .before)
@@ -89,8 +92,7 @@ same-length c = same (c .before .before .before)
 returns : tie.Need-returns Inv-loop μ-loop
 returns c =
     let s = c .before .before .before in
-    let a = s .before .before .before .before .before .before .before .before .before .before .before .args in
-    both (sym (walk-kept (a .anchored) (drop (s .loop .end) (a .text .now)) (a .path .now) (s .loop .w) (s .loop .scratch) (not-true _ (c .if1 .taken))) ∙ gives s)
+    both (sym (walk-kept (endMark s) (drop (s .loop .end) (text s)) (path s) (s .loop .w) (s .loop .scratch) (not-true _ (c .if1 .taken))) ∙ gives s)
 
 add-start : tie.Need-add-start Inv-loop μ-loop
 add-start c = omega arith
@@ -107,17 +109,37 @@ part-find-end c = omega arith
 find-requires-2 : tie.Need-find-requires-2 Inv-loop μ-loop
 find-requires-2 c κs = tt
 
--- a later run's end
-turned : (c : tie.After-find2 Inv-loop μ-loop)
-    → let s = c .before .before .before .before .before in
-    let a = s .before .before .before .before .before .before .before .before .before .before .before .args in
-    RunEnd (a .text .now) (s .loop .end + 1) (s .loop .end + 1 + c .find2 .result)
-unfolding firstRun
-turned c =
-    let s = c .before .before .before .before .before in
-    let a = s .before .before .before .before .before .before .before .before .before .before .before .args in
-    run-end (a .text .now) (s .loop .end + 1) (s .loop .end + 1 + c .find2 .result) (omega arith)
-    (ap (λ (n : ℕ). s .loop .end + 1 + n) (rw (rest-of (s .loop .end + 1) (a .text .now)) at (c .find2 .ensures)))
+module _ (c : tie.After-find2 Inv-loop μ-loop) where
+  abbrev turn : tie.At-loop Inv-loop μ-loop
+  turn = c .before .before .before .before .before
+
+  abbrev from : ℕ
+  from = turn .loop .end + 1
+
+  abbrev end : ℕ
+  end = from + c .find2 .result
+
+  abbrev run : List ℕ
+  run = take (end - from) (drop from (text turn))
+
+  -- a later run's end
+  turned : RunEnd (text turn) from end
+  unfolding firstRun
+  turned = run-end (text turn) from end (omega arith) (ap (λ (n : ℕ). from + n) (rw (rest-of from (text turn)) at (c .find2 .ensures)))
+
+  stood : turn .loop .w .stood ≡ true
+  stood = not-false _ (c .before .before .if1 .left)
+
+  -- one run more, whatever says what became of it
+  goes-on : (last : Bool) (v : Walked) (m : List ℕ)
+      → last ≡ (endMark turn && eqb end (length (text turn)))
+      → v ≡ next last (normalRun run) (path turn) (turn .loop .w)
+      → m ≡ runScratch run (turn .loop .scratch)
+      → outcomeFrom (endMark turn) (drop end (text turn)) (path turn) v m
+      ≡ outcomeFrom (endMark turn) (drop (turn .loop .end) (text turn)) (path turn) (turn .loop .w) (turn .loop .scratch)
+  goes-on last v m =
+      let l : turn .loop .end < length (text turn) = omega arith in
+      walk-turn (endMark turn) (text turn) (path turn) (turn .loop .end) end last (turn .loop .w) v (turn .loop .scratch) m l (turn .loop .inv .3 l) stood turned
 
 add-end : tie.Need-add-end Inv-loop μ-loop
 add-end c = omega (arith, turned c .within)
@@ -134,56 +156,35 @@ part-later-raw-end c = turned c .within
 is-last-requires-2 : tie.Need-is-last-requires-2 Inv-loop μ-loop
 is-last-requires-2 c κs = tt
 
--- one run more, whatever says what became of it
-goes-on : (c : tie.After-is-last2 Inv-loop μ-loop) (v : Walked) (m : List ℕ)
-    → let s = c .before .before .before .before .before .before .before in
-    let a = s .before .before .before .before .before .before .before .before .before .before .before .args in
-    let k = s .loop .end + 1 in
-    let f = k + c .before .before .find2 .result in
-    v ≡ next (c .is-last2 .result) (normalRun (take (f - k) (drop k (a .text .now)))) (a .path .now) (s .loop .w)
-    → m ≡ runScratch (take (f - k) (drop k (a .text .now))) (s .loop .scratch)
-    → outcomeFrom (a .anchored) (drop f (a .text .now)) (a .path .now) v m
-    ≡ outcomeFrom (a .anchored) (drop (s .loop .end) (a .text .now)) (a .path .now) (s .loop .w) (s .loop .scratch)
-goes-on c v m v-is m-is =
-    let s = c .before .before .before .before .before .before .before in
-    let a = s .before .before .before .before .before .before .before .before .before .before .before .args in
-    let l : s .loop .end < length (a .text .now) = omega arith in
-    walk-turn (a .anchored) (a .text .now) (a .path .now) (s .loop .end) (s .loop .end + 1 + c .before .before .find2 .result) (c .is-last2 .result)
-    (s .loop .w) v (s .loop .scratch) m l (s .loop .inv .3 l) (not-false _ (c .before .before .before .before .if1 .left)) (turned (c .before .before)) (c .is-last2 .ensures) v-is m-is
-
 later-raw-requires : tie.Need-later-raw-requires Inv-loop μ-loop
 later-raw-requires c κs =
-    let i = c .before in
-    let s = i .before .before .before .before .before .before .before in
-    let p = s .before .before .before .before .before .before .before .before .before .before .before in
-    let a = p .args in
-    let k = s .loop .end + 1 in
-    let f = k + i .before .before .find2 .result in
-    let run = take (f - k) (drop k (a .text .now)) in
-    let v = next (i .is-last2 .result) (normalRun run) (a .path .now) (s .loop .w) in
-    let e = goes-on i v (runScratch run (s .loop .scratch)) refl refl ∙ gives s in (
-      omega (arith, same s, p .pre .0),
-      not-false _ (i .before .before .before .before .if1 .left),
+    let i = c .before .is-last2 in
+    let f = c .before .before .before in
+    let s = turn f in
+    let v = next (i .result) (normalRun (run f)) (path s) (s .loop .w) in
+    let e = goes-on f (i .result) v (runScratch (run f) (s .loop .scratch)) (i .ensures) refl refl ∙ gives s in (
+      omega (arith, same s, start s .pre .0),
+      stood f,
       s .loop .inv .1,
-      omega (arith, p .pre .1, later-costs (a .anchored) (runsOf (drop f (a .text .now))) (a .path .now) v .0, ap (λ (w : Walked). w .count) (both e .0)),
+      omega (arith, start s .pre .1, later-costs (endMark s) (runsOf (drop (end f) (text s))) (path s) v .0, ap (λ (w : Walked). w .count) (both e .0)),
     )
 
+abbrev found : tie.After-slice-known3 Inv-loop μ-loop → tie.After-find2 Inv-loop μ-loop
+found c = c .before .before .before .before .before .before
+
 loop-less : tie.Need-loop-less Inv-loop μ-loop
-loop-less c =
-    let t = turned (c .before .before .before .before .before .before) in
-    omega (arith, t .from, t .within)
+loop-less c = omega (arith, turned (found c) .from, turned (found c) .within)
 
 loop-again : tie.Need-loop-again Inv-loop μ-loop
 loop-again c =
-    let l = c .before .before in
-    let i = l .before .before in
-    let s = i .before .before .before .before .before .before .before in
-    let t = turned (i .before .before) in (
-      t .within,
-      rw (l .later-raw .ensures .0) (next-within _ _ _ _ (s .loop .inv .1)),
-      l .later-raw .kept .1 .1 .1 .1 .0 ∙ s .loop .inv .2,
-      t .stop,
-      goes-on i (l .later-raw .result) (l .later-raw .last .1 .1 .1 .1 .0) (l .later-raw .ensures .0) (l .later-raw .ensures .1) ∙ s .loop .inv .4,
+    let f = found c in
+    let r = c .before .before .later-raw in
+    let i = c .before .before .before .before .is-last2 in (
+      turned f .within,
+      rw (r .ensures .0) (next-within _ _ _ _ (turn f .loop .inv .1)),
+      r .kept .1 .1 .1 .1 .0 ∙ turn f .loop .inv .2,
+      turned f .stop,
+      goes-on f (i .result) (r .result) (r .last .1 .1 .1 .1 .0) (i .ensures) (r .ensures .0) (r .ensures .1) ∙ turn f .loop .inv .4,
     )
 
 same-length-2 : tie.Need-same-length-2 Inv-loop μ-loop
@@ -192,8 +193,7 @@ same-length-2 c = same (c .before)
 returns-2 : tie.Need-returns-2 Inv-loop μ-loop
 returns-2 c =
     let s = c .before in
-    let a = s .before .before .before .before .before .before .before .before .before .before .before .args in
-    both (sym (walk-over (a .anchored) (a .text .now) (a .path .now) (s .loop .end) (s .loop .w) (s .loop .scratch) (c .loop-test .left)) ∙ gives s)
+    both (sym (walk-over (endMark s) (text s) (path s) (s .loop .end) (s .loop .w) (s .loop .scratch) (c .loop-test .left)) ∙ gives s)
 
 pub walk-text-spec : {M : Type 1} → statement M
 walk-text-spec =
