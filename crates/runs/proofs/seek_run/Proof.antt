@@ -1,7 +1,8 @@
 -- `runs::seek_run` meets its contract: the search from `at` on gives the whole search's outcome. Assumes nothing.
-use Prim.Native.Nat.{_+_, _-_, _≤_, _<_, _^_}
+use Prim.Native.Nat.{ℕ, _+_, _-_, _≤_, _<_, _^_}
 use mathlib.Core.Path.{_≡_, refl, sym, ap, _∙_}
 use mathlib.Core.Bool.{true}
+use mathlib.Core.List.{List}
 use native.Mathlib.Omega.{arith}
 use native.Mathlib.Nat.{lt-of-le-of-lt}
 use lib.ListN.{length, drop, length-drop}
@@ -28,6 +29,16 @@ returns c =
 loop-holds : tie.Need-loop-holds Inv-loop μ-loop
 loop-holds c = (omega arith, refl)
 
+module _ (c : tie.At-loop Inv-loop μ-loop) where
+  abbrev entry : tie.Start Inv-loop μ-loop
+  entry = c .before .before .before .before
+
+  abbrev run : List ℕ
+  run = entry .args .run .now
+
+  abbrev path : List ℕ
+  path = entry .args .path .now
+
 sub-loop : tie.Need-sub-loop Inv-loop μ-loop
 sub-loop c = omega arith
 
@@ -52,34 +63,35 @@ part-try-first-end c = omega arith
 try-first-requires : tie.Need-try-first-requires Inv-loop μ-loop
 try-first-requires c κs =
     let s = c .before .before .before in
-    let a = s .before .before .before .before .args in
-    omega (arith, tries-count (a .path .now) (s .loop .at) (s .loop .count) (a .run .now) (s .before .if1 .left) (omega arith), ap (λ (x : Walked). x .count) (s .loop .inv .1))
+    omega (arith, tries-count (path s) (s .loop .at) (s .loop .count) (run s) (s .before .if1 .left) (omega arith), ap (λ (x : Walked). x .count) (s .loop .inv .1))
 
 fail-requires : tie.Need-fail-requires Inv-loop μ-loop
 fail-requires c κs = tt
 
+module _ (c : tie.After-try-first Inv-loop μ-loop) where
+  abbrev turn : tie.At-loop Inv-loop μ-loop
+  turn = c .before .before .before .before
+
+  abbrev start : ℕ
+  start = behindFirst (turn .loop .at) (turn .loop .count) (c .try-first .result)
+
 returns-2 : tie.Need-returns-2 Inv-loop μ-loop
 returns-2 c =
     let f = c .before .before .before in
-    let s = f .before .before .before .before in
-    let a = s .before .before .before .before .args in
-    let x = f .try-first in
+    let s = turn f in
     c .fail .ensures
-    ∙ sym (firsts-spent (a .path .now) (s .loop .at) (s .loop .count) (a .run .now) (x .result) (s .before .if1 .left) (omega arith) (x .ensures) (not-true _ (c .before .if2 .taken)))
+    ∙ sym (firsts-spent (path s) (s .loop .at) (s .loop .count) (run s) (f .try-first .result) (s .before .if1 .left) (omega arith) (f .try-first .ensures) (not-true _ (c .before .if2 .taken)))
     ∙ s .loop .inv .1
 
 -- the search goes on behind the run's first octet
-found : (c : tie.Else2 Inv-loop μ-loop)
-    → let f = c .before .before in
-    let s = f .before .before .before .before in
-    let a = s .before .before .before .before .args in
-    Found (a .run .now) (a .path .now) (s .loop .at) (s .loop .count) (f .try-first .result)
-found c =
-    let f = c .before .before in
-    let s = f .before .before .before .before in
-    let a = s .before .before .before .before .args in
-    let x = f .try-first in
-    firsts-found (a .path .now) (s .loop .at) (s .loop .count) (a .run .now) (x .result) (s .before .if1 .left) (omega arith) (x .ensures) (not-false _ (c .if2 .left))
+module _ (c : tie.Else2 Inv-loop μ-loop) where
+  abbrev first : tie.After-try-first Inv-loop μ-loop
+  first = c .before .before
+
+  found : Found (run (turn first)) (path (turn first)) (turn first .loop .at) (turn first .loop .count) (first .try-first .result)
+  found =
+      let s = turn first in
+      firsts-found (path s) (s .loop .at) (s .loop .count) (run s) (first .try-first .result) (s .before .if1 .left) (omega arith) (first .try-first .ensures) (not-false _ (c .if2 .left))
 
 sub-at : tie.Need-sub-at Inv-loop μ-loop
 sub-at c = omega (arith, found (c .before) .more)
@@ -108,59 +120,46 @@ part-try-run-end-2 c = omega (arith, found (c .before .before) .inside)
 try-run-requires : tie.Need-try-run-requires Inv-loop μ-loop
 try-run-requires c κs =
     let e = c .before .before .before in
-    let f = e .before .before in
-    let s = f .before .before .before .before in
-    let a = s .before .before .before .before .args in
-    let x = f .try-first .result in
-    let at = behindFirst (s .loop .at) (s .loop .count) x in
-    rw (rest-of 1 (a .run .now), rest-of at (a .path .now)) (
+    let s = turn (first e) in
+    rw (rest-of 1 (run s), rest-of (start (first e)) (path s)) (
       simp length-drop (found e .fits),
-      omega (arith, found-counts (a .run .now) (a .path .now) (s .loop .at) (s .loop .count) x (found e), ap (λ (y : Walked). y .count) (s .loop .inv .1)),
+      omega (arith, found-counts (run s) (path s) (s .loop .at) (s .loop .count) (first e .try-first .result) (found e), ap (λ (y : Walked). y .count) (s .loop .inv .1)),
     )
 
 -- the try of what is left of the run
-here : (c : tie.After-try-run Inv-loop μ-loop)
-    → let f = c .before .before .before .before .before .before in
-    let s = f .before .before .before .before in
-    let a = s .before .before .before .before .args in
-    let x = f .try-first .result in
-    c .try-run .result ≡ tried (drop 1 (a .run .now)) (drop (behindFirst (s .loop .at) (s .loop .count) x) (a .path .now)) (x .count)
-here c =
-    let f = c .before .before .before .before .before .before in
-    let s = f .before .before .before .before in
-    let a = s .before .before .before .before .args in
-    rw (← rest-of 1 (a .run .now), ← rest-of (behindFirst (s .loop .at) (s .loop .count) (f .try-first .result)) (a .path .now)) (c .try-run .ensures)
+module _ (c : tie.After-try-run Inv-loop μ-loop) where
+  abbrev e : tie.Else2 Inv-loop μ-loop
+  e = c .before .before .before .before
+
+  abbrev s : tie.At-loop Inv-loop μ-loop
+  s = turn (first e)
+
+  here : c .try-run .result ≡ tried (drop 1 (run s)) (drop (start (first e)) (path s)) (first e .try-first .result .count)
+  here = rw (← rest-of 1 (run s), ← rest-of (start (first e)) (path s)) (c .try-run .ensures)
 
 sub-past : tie.Need-sub-past Inv-loop μ-loop
-sub-past c = found (c .before .before .before .before .before) .some
+sub-past c = found (e (c .before)) .some
 
 add-past : tie.Need-add-past Inv-loop μ-loop
 add-past c =
-    let e = c .before .before .before .before .before in
-    let p = length (e .before .before .before .before .before .before .before .before .before .before .args .path .now) in
-    let h : p < 2 ^ 64 = omega arith in
-    record { fits = lt-of-le-of-lt (found e .end) h }
+    let h : length (path (s (c .before))) < 2 ^ 64 = omega arith in
+    record { fits = lt-of-le-of-lt (found (e (c .before)) .end) h }
 
 returns-3 : tie.Need-returns-3 Inv-loop μ-loop
 returns-3 c =
-    let e = c .before .before .before .before .before in
-    let f = e .before .before in
-    let s = f .before .before .before .before in
-    let a = s .before .before .before .before .args in
-    let t = here (c .before) in
-    ap (λ (y : Tried). record { stood = true; past = behindFirst (s .loop .at) (s .loop .count) (f .try-first .result) + (length (a .run .now) - 1); count = y .count }) t
-    ∙ sym (found e .here (ap (λ (y : Tried). y .stood) (sym t) ∙ c .if3 .taken))
-    ∙ s .loop .inv .1
+    let r = c .before in
+    ap (λ (y : Tried). record { stood = true; past = start (first (e r)) + (length (run (s r)) - 1); count = y .count }) (here r)
+    ∙ sym (found (e r) .here (ap (λ (y : Tried). y .stood) (sym (here r)) ∙ c .if3 .taken))
+    ∙ s r .loop .inv .1
 
 loop-less : tie.Need-loop-less Inv-loop μ-loop
-loop-less c = found (c .before .before .before .before .before) .less
+loop-less c = found (e (c .before)) .less
 
 loop-again : tie.Need-loop-again Inv-loop μ-loop
 loop-again c =
-    let e = c .before .before .before .before .before in
-    let s = e .before .before .before .before .before .before in
-    let t = here (c .before) in
-    (found e .inside, rw t (sym (found e .on (ap (λ (y : Tried). y .stood) (sym t) ∙ c .if3 .left)) ∙ s .loop .inv .1))
+    let r = c .before in
+    let g = found (e r) in
+    (g .inside, rw (here r) (sym (g .on (ap (λ (y : Tried). y .stood) (sym (here r)) ∙ c .if3 .left)) ∙ s r .loop .inv .1))
 
 fail-requires-2 : tie.Need-fail-requires-2 Inv-loop μ-loop
 fail-requires-2 c κs = tt
@@ -168,8 +167,7 @@ fail-requires-2 c κs = tt
 returns-4 : tie.Need-returns-4 Inv-loop μ-loop
 returns-4 c =
     let s = c .before .before in
-    let a = s .before .before .before .before .args in
-    c .fail2 .ensures ∙ sym (search-end (a .run .now) (a .path .now) (s .loop .at) (s .loop .count) (omega arith)) ∙ s .loop .inv .1
+    c .fail2 .ensures ∙ sym (search-end (run s) (path s) (s .loop .at) (s .loop .count) (omega arith)) ∙ s .loop .inv .1
 
 pub seek-run-spec : {M : Type 1} → statement M
 seek-run-spec =
