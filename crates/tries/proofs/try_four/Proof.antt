@@ -1,7 +1,10 @@
 -- `tries::try_four` meets its contract: at each place, what is left gives the whole outcome. Assumes nothing.
-use mathlib.Core.Path.{_≡_, sym, ap, _∙_}
+use Prim.Native.Nat.{ℕ, _+_, _<_, _^_}
+use mathlib.Core.Path.{_≡_, refl, sym, ap, _∙_}
+use mathlib.Core.Bool.{true, false}
 use native.Mathlib.Omega.{arith}
-use lib.ListN.{drop}
+use lib.Dec.{eqb}
+use lib.ListN.{length, drop, getD}
 use borrow.Author.Needs.{needs}
 use Rattle.protocol.specs.declared.Tried.{Tried}
 use Rattle.tries.specs.Tries.{triedFirst}
@@ -9,112 +12,103 @@ use Rattle.tries.proofs.Turns.{firsts-here, firsts-on, firsts-last, fir
 use Rattle.tries.proofs.try_four.Statement.{statement}
 use Rattle.tries.proofs.try_four.Tie as tie
 
+-- what the places from the index i on give, after n pairs
+abbrev from : tie.Start → ℕ → ℕ → Tried
+from s i n = triedFirst (s .args .first) (drop i (s .args .four .now)) n
+
+abbrev whole : tie.Start → Tried
+whole s = from s 0 (s .args .before)
+
+-- one pair, where what is left gives the whole
+module _ (s : tie.Start) (i n : ℕ) (l : i < 4) (gives : from s i n ≡ whole s) where
+  inside : i < length (s .args .four .now)
+  inside = omega (arith, s .pre .0)
+
+  fits : n + 1 < 2 ^ 64
+  fits = omega (arith, firsts-counts (s .args .first) (s .args .four .now) i n inside, s .pre .1, ap (λ (x : Tried). x .count) gives)
+
+  module _ (x : Tried) (h : x ≡ record { stood = eqb (s .args .first) (getD (s .args .four .now) i 0); count = n + 1 }) where
+    here : x .stood ≡ true → x ≡ whole s
+    here e = firsts-here (s .args .first) (s .args .four .now) i n inside x h e ∙ gives
+
+    on : x .stood ≡ false → from s (i + 1) (x .count) ≡ whole s
+    on e = sym (firsts-on (s .args .first) (s .args .four .now) i n inside x h e) ∙ gives
+
 shared-slice-read-compare : tie.Need-shared-slice-read-compare
 shared-slice-read-compare c = search needs
 
 compare-requires : tie.Need-compare-requires
-compare-requires c κs =
-    let s = c .before .before in
-    let a = s .args in
-    omega (arith, firsts-counts (a .first) (a .four .now) 0 (a .before) (omega (arith, s .pre .0)), s .pre .1)
+compare-requires c κs = fits (c .before .before) 0 _ (omega arith) refl
+
+abbrev entry : tie.After-compare → tie.Start
+entry c = c .before .before .before
 
 returns : tie.Need-returns
-returns c =
-    let s = c .before .before .before .before in
-    let a = s .args in
-    let q = c .before .compare in
-    firsts-here (a .first) (a .four .now) 0 (a .before) (omega (arith, s .pre .0)) (q .result) (q .ensures) (c .if1 .taken)
+returns c = here (entry (c .before)) 0 _ (omega arith) refl _ (c .before .compare .ensures) (c .if1 .taken)
 
 -- behind the first place
-behind1 : (c : tie.Else1)
-    → let a = c .before .before .before .before .args in
-    triedFirst (a .first) (a .four .now) (a .before) ≡ triedFirst (a .first) (drop 1 (a .four .now)) (c .before .compare .result .count)
-behind1 c =
-    let s = c .before .before .before .before in
-    let a = s .args in
-    let q = c .before .compare in
-    firsts-on (a .first) (a .four .now) 0 (a .before) (omega (arith, s .pre .0)) (q .result) (q .ensures) (c .if1 .left)
+module _ (c : tie.Else1) where
+  abbrev start1 : tie.Start
+  start1 = entry (c .before)
+
+  behind1 : from start1 1 (c .before .compare .result .count) ≡ whole start1
+  behind1 = on start1 0 _ (omega arith) refl _ (c .before .compare .ensures) (c .if1 .left)
 
 shared-slice-read-compare-2 : tie.Need-shared-slice-read-compare-2
 shared-slice-read-compare-2 c = search needs
 
 compare-requires-2 : tie.Need-compare-requires-2
-compare-requires-2 c κs =
-    let e = c .before in
-    let s = e .before .before .before .before in
-    let a = s .args in
-    let n = e .before .compare .result .count in
-    omega (arith, firsts-counts (a .first) (a .four .now) 1 n (omega (arith, s .pre .0)), s .pre .1, ap (λ (x : Tried). x .count) (behind1 e))
+compare-requires-2 c κs = fits (start1 (c .before)) 1 _ (omega arith) (behind1 (c .before))
 
 returns-2 : tie.Need-returns-2
 returns-2 c =
     let e = c .before .before .before in
-    let s = e .before .before .before .before in
-    let a = s .args in
-    let q = c .before .compare2 in
-    firsts-here (a .first) (a .four .now) 1 (e .before .compare .result .count) (omega (arith, s .pre .0)) (q .result) (q .ensures) (c .if2 .taken) ∙ sym (behind1 e)
+    here (start1 e) 1 _ (omega arith) (behind1 e) _ (c .before .compare2 .ensures) (c .if2 .taken)
 
 -- behind the second
-behind2 : (c : tie.Else2)
-    → let a = c .before .before .before .before .before .before .before .args in
-    triedFirst (a .first) (a .four .now) (a .before) ≡ triedFirst (a .first) (drop 2 (a .four .now)) (c .before .compare2 .result .count)
-behind2 c =
-    let e = c .before .before .before in
-    let s = e .before .before .before .before in
-    let a = s .args in
-    let q = c .before .compare2 in
-    behind1 e
-    ∙ firsts-on (a .first) (a .four .now) 1 (e .before .compare .result .count) (omega (arith, s .pre .0)) (q .result) (q .ensures) (c .if2 .left)
+module _ (c : tie.Else2) where
+  abbrev past1 : tie.Else1
+  past1 = c .before .before .before
+
+  abbrev start2 : tie.Start
+  start2 = start1 past1
+
+  behind2 : from start2 2 (c .before .compare2 .result .count) ≡ whole start2
+  behind2 = on start2 1 _ (omega arith) (behind1 past1) _ (c .before .compare2 .ensures) (c .if2 .left)
 
 shared-slice-read-compare-3 : tie.Need-shared-slice-read-compare-3
 shared-slice-read-compare-3 c = search needs
 
 compare-requires-3 : tie.Need-compare-requires-3
-compare-requires-3 c κs =
-    let e = c .before in
-    let s = e .before .before .before .before .before .before .before in
-    let a = s .args in
-    let n = e .before .compare2 .result .count in
-    omega (arith, firsts-counts (a .first) (a .four .now) 2 n (omega (arith, s .pre .0)), s .pre .1, ap (λ (x : Tried). x .count) (behind2 e))
+compare-requires-3 c κs = fits (start2 (c .before)) 2 _ (omega arith) (behind2 (c .before))
 
 returns-3 : tie.Need-returns-3
 returns-3 c =
     let e = c .before .before .before in
-    let s = e .before .before .before .before .before .before .before in
-    let a = s .args in
-    let q = c .before .compare3 in
-    firsts-here (a .first) (a .four .now) 2 (e .before .compare2 .result .count) (omega (arith, s .pre .0)) (q .result) (q .ensures) (c .if3 .taken) ∙ sym (behind2 e)
+    here (start2 e) 2 _ (omega arith) (behind2 e) _ (c .before .compare3 .ensures) (c .if3 .taken)
 
 -- behind the third
-behind3 : (c : tie.Else3)
-    → let a = c .before .before .before .before .before .before .before .before .before .before .args in
-    triedFirst (a .first) (a .four .now) (a .before) ≡ triedFirst (a .first) (drop 3 (a .four .now)) (c .before .compare3 .result .count)
-behind3 c =
-    let e = c .before .before .before in
-    let s = e .before .before .before .before .before .before .before in
-    let a = s .args in
-    let q = c .before .compare3 in
-    behind2 e
-    ∙ firsts-on (a .first) (a .four .now) 2 (e .before .compare2 .result .count) (omega (arith, s .pre .0)) (q .result) (q .ensures) (c .if3 .left)
+module _ (c : tie.Else3) where
+  abbrev past2 : tie.Else2
+  past2 = c .before .before .before
+
+  abbrev start3 : tie.Start
+  start3 = start2 past2
+
+  behind3 : from start3 3 (c .before .compare3 .result .count) ≡ whole start3
+  behind3 = on start3 2 _ (omega arith) (behind2 past2) _ (c .before .compare3 .ensures) (c .if3 .left)
 
 shared-slice-read-compare-4 : tie.Need-shared-slice-read-compare-4
 shared-slice-read-compare-4 c = search needs
 
 compare-requires-4 : tie.Need-compare-requires-4
-compare-requires-4 c κs =
-    let e = c .before in
-    let s = e .before .before .before .before .before .before .before .before .before .before in
-    let a = s .args in
-    let n = e .before .compare3 .result .count in
-    omega (arith, firsts-counts (a .first) (a .four .now) 3 n (omega (arith, s .pre .0)), s .pre .1, ap (λ (x : Tried). x .count) (behind3 e))
+compare-requires-4 c κs = fits (start3 (c .before)) 3 _ (omega arith) (behind3 (c .before))
 
 returns-4 : tie.Need-returns-4
 returns-4 c =
     let e = c .before .before in
-    let s = e .before .before .before .before .before .before .before .before .before .before in
-    let a = s .args in
-    let q = c .compare4 in
-    firsts-last (a .first) (a .four .now) 3 (e .before .compare3 .result .count) (omega (arith, s .pre .0)) (q .result) (q .ensures) (sym (s .pre .0)) ∙ sym (behind3 e)
+    let s = start3 e in
+    firsts-last (s .args .first) (s .args .four .now) 3 _ (omega (arith, s .pre .0)) _ (c .compare4 .ensures) (sym (s .pre .0)) ∙ behind3 e
 
 pub try-four-spec : {M : Type 1} → statement M
 try-four-spec =
