@@ -13,16 +13,20 @@ use Rattle.normal.proofs.normalise_run.Tie as tie
 fits-requires : tie.Need-fits-requires
 fits-requires c κs = search needs
 
+-- the test of the room
+module _ (c : tie.After-fits2) where
+  abbrev entry : tie.Start
+  entry = c .before .before .before
+
+  told : leb (length (normal true 0 (entry .args .run .now))) (length (entry .args .scratch .now)) ≡ c .fits2 .result
+  told = sym (c .fits2 .ensures)
+
 returns : tie.Need-returns
 unfolding runOf runScratch
-returns c =
-    let a = c .before .before .before .before .args in
-    let e : leb (length (normal true 0 (a .run .now))) (length (a .scratch .now)) ≡ false = sym (c .before .fits2 .ensures) ∙ not-true _ (c .if1 .taken) in
-    rw e (refl, refl)
+returns c = rw (told (c .before) ∙ not-true _ (c .if1 .taken)) (refl, refl)
 
 write-requires : tie.Need-write-requires
-write-requires c κs =
-    leb-true _ _ (sym (c .before .before .fits2 .ensures) ∙ not-false _ (c .before .if1 .left))
+write-requires c κs = leb-true _ _ (told (c .before .before) ∙ not-false _ (c .before .if1 .left))
 
 same-length : tie.Need-same-length
 same-length c = search needs
@@ -30,10 +34,9 @@ same-length c = search needs
 returns-2 : tie.Need-returns-2
 unfolding runOf runScratch
 returns-2 c =
-    let a = c .before .before .before .before .before .before .before .before .args in
-    let e : leb (length (normal true 0 (a .run .now))) (length (a .scratch .now)) ≡ true = sym (c .before .before .before .before .before .fits2 .ensures) ∙ not-false _ (c .before .before .before .before .if1 .left) in
-    let w = c .before .before .write .ensures in
-    rw (e, w .0, w .1) (refl, refl)
+    let w = c .before .before in
+    let l = w .before .before in
+    rw (told (l .before) ∙ not-false _ (l .if1 .left), w .write .ensures .0, w .write .ensures .1) (refl, refl)
 
 pub normalise-run-spec : {M : Type 1} → statement M
 normalise-run-spec =

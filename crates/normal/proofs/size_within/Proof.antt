@@ -23,13 +23,16 @@ loop-holds c = omega arith
 measure-at-requires : tie.Need-measure-at-requires Inv-loop μ-loop
 measure-at-requires c κs = omega arith
 
+abbrev entry : tie.At-loop Inv-loop μ-loop → tie.Start Inv-loop μ-loop
+entry s = s .before .before
+
 -- the turn over what was measured
-passed : (c : tie.After-measure-at Inv-loop μ-loop)
-    → let s = c .before .before in let a = s .before .before .args in Turn (a .stars) (a .s .now) (s .loop .i) (c .measure-at .result)
-passed c =
-    let s = c .before .before in
-    let a = s .before .before .args in
-    turn (a .stars) (a .s .now) (s .loop .i) (omega arith) (c .measure-at .result) (c .measure-at .ensures)
+module _ (c : tie.After-measure-at Inv-loop μ-loop) where
+  abbrev at : tie.At-loop Inv-loop μ-loop
+  at = c .before .before
+
+  passed : Turn (entry at .args .stars) (entry at .args .s .now) (at .loop .i) (c .measure-at .result)
+  passed = turn _ _ _ (omega arith) _ (c .measure-at .ensures)
 
 sub-if1 : tie.Need-sub-if1 Inv-loop μ-loop
 sub-if1 c = omega arith
@@ -37,29 +40,31 @@ sub-if1 c = omega arith
 returns : tie.Need-returns Inv-loop μ-loop
 unfolding sizeWithin
 returns c =
-    let a = c .before .before .before .before .before .before .args in
-    let t = passed (c .before .before) in
-    rw (lt-leb (length (normal (a .stars) 0 (a .s .now))) (a .room) (omega arith))
+    let m = c .before .before in
+    let t = passed m in
+    rw (lt-leb (length (normal (entry (at m) .args .stars) 0 (entry (at m) .args .s .now))) (entry (at m) .args .room) (omega arith))
 
 add-octets : tie.Need-add-octets Inv-loop μ-loop
-add-octets c = omega (arith, passed (c .before .before .before))
+add-octets c = omega arith
+
+abbrev measured : tie.After-struct-known3 Inv-loop μ-loop → tie.After-measure-at Inv-loop μ-loop
+measured c = c .before .before .before .before
 
 add-i : tie.Need-add-i Inv-loop μ-loop
-add-i c = omega (arith, passed (c .before .before .before .before))
+add-i c = omega (arith, passed (measured c))
 
 loop-less : tie.Need-loop-less Inv-loop μ-loop
-loop-less c = omega (arith, passed (c .before .before .before .before))
+loop-less c = omega (arith, passed (measured c))
 
 loop-again : tie.Need-loop-again Inv-loop μ-loop
-loop-again c = omega (arith, passed (c .before .before .before .before))
+loop-again c = omega (arith, passed (measured c))
 
 returns-2 : tie.Need-returns-2 Inv-loop μ-loop
 unfolding sizeWithin
 returns-2 c =
     let s = c .before in
-    let a = s .before .before .args in
-    let none = ap length (normal-end (a .stars) (a .s .now) (s .loop .i) (omega arith)) in
-    let all : s .loop .octets ≡ length (normal (a .stars) 0 (a .s .now)) = omega (arith, none) in
+    let a = entry s .args in
+    let all : s .loop .octets ≡ length (normal (a .stars) 0 (a .s .now)) = omega (arith, ap length (normal-end (a .stars) (a .s .now) (s .loop .i) (omega arith))) in
     rw (← all, le-leb (s .loop .octets) (a .room) (omega arith))
 
 pub size-within-spec : {M : Type 1} → statement M

@@ -18,12 +18,15 @@ use Rattle.normal.proofs.weight_of.Tie as tie
 text-length-requires : tie.Need-text-length-requires
 text-length-requires c κs = tt
 
+abbrev pattern : tie.After-text-length → List ℕ
+pattern c = c .before .before .args .pattern .now
+
 sub-end-marks : tie.Need-sub-end-marks
-sub-end-marks c = omega (arith, c .text-length .ensures, end-mark-length (c .before .before .args .pattern .now))
+sub-end-marks c = omega (arith, c .text-length .ensures, end-mark-length (pattern c))
 
 -- the part that is measured
-text : (c : tie.After-text-length) → take (c .text-length .result) (c .before .before .args .pattern .now) ≡ rawText (c .before .before .args .pattern .now)
-text c = rw (c .text-length .ensures) (text-front (c .before .before .args .pattern .now))
+text : (c : tie.After-text-length) → take (c .text-length .result) (pattern c) ≡ rawText (pattern c)
+text c = ap (λ (n : ℕ). take n (pattern c)) (c .text-length .ensures) ∙ text-front (pattern c)
 
 slice-aggregate-size-within : tie.Need-slice-aggregate-size-within
 slice-aggregate-size-within c = rw (text (c .before)) (c .before .text-length .ensures)
@@ -32,23 +35,24 @@ size-within-requires : tie.Need-size-within-requires
 size-within-requires c κs = tt
 
 -- its octets, since they fit
-measured : (c : tie.After-size-within)
-    → c .size-within .result .octets ≡ length (normal true 0 (rawText (c .before .before .before .before .args .pattern .now)))
-unfolding sizeWithin
-measured c =
-    let l : List ℕ = c .before .before .before .before .args .pattern .now in
-    let most = le-leb (length (normal true 0 (rawText l))) 0xFFFF_FFFF_FFFF_FFFF (omega (arith, weight-parts l, c .before .before .before .before .pre)) in
-    ap (λ (r : Size). r .octets) (c .size-within .ensures) ∙ rw (text (c .before .before), most)
+module _ (c : tie.After-size-within) where
+  abbrev found : tie.After-text-length
+  found = c .before .before
+
+  measured : c .size-within .result .octets ≡ length (normal true 0 (rawText (pattern found)))
+  unfolding sizeWithin
+  measured =
+      let most = le-leb (length (normal true 0 (rawText (pattern found)))) 0xFFFF_FFFF_FFFF_FFFF (omega (arith, weight-parts (pattern found), found .before .before .pre)) in
+      ap (λ (r : Size). r .octets) (c .size-within .ensures) ∙ rw (text found, most)
 
 add-result : tie.Need-add-result
 add-result c =
-    let s = c .before .before .before .before .before in
-    omega (arith, measured (c .before), weight-parts (s .args .pattern .now), s .pre, c .before .before .before .text-length .ensures)
+    let f = found (c .before) in
+    omega (arith, measured (c .before), weight-parts (pattern f), f .before .before .pre, f .text-length .ensures)
 
 returns : tie.Need-returns
 returns c =
-    let s = c .before .before .before .before .before in
-    omega (arith, measured (c .before), weight-parts (s .args .pattern .now), c .before .before .before .text-length .ensures)
+    let f = found (c .before) in omega (arith, measured (c .before), weight-parts (pattern f), f .text-length .ensures)
 
 pub weight-of-spec : {M : Type 1} → statement M
 weight-of-spec =

@@ -1,12 +1,13 @@
 -- `normal::write` meets its contract: to store what is left leaves what to store the whole would. Assumes nothing.
-use Prim.Native.Nat.{_+_, _-_, _≤_}
+use Prim.Native.Nat.{ℕ, _+_, _-_, _≤_}
 use mathlib.Core.Path.{_≡_, refl, sym, _∙_}
+use mathlib.Core.Bool.{Bool}
+use mathlib.Core.List.{List}
 use native.Mathlib.Omega.{arith}
 use lib.ListN.{length, drop, getD, length-set}
 use lib.Seq.{sets}
 use Rattle.lists.proofs.Fronts.{sets-front}
 use Rattle.protocol.specs.Normal.{normal}
-use Rattle.escapes.specs.declared.Replacement.{Replacement}
 use Rattle.escapes.specs.Escapes.{ReplacementAt}
 use Rattle.escapes.proofs.Forms.{alone, replacement-kept, replacement-changed, measureOf, measured}
 use Rattle.normal.proofs.Steps.{Turn, normal-end, turn, store-on}
@@ -16,14 +17,15 @@ use Rattle.normal.proofs.write.Tie as tie
 abbrev Inv-loop : tie.InvT-loop
 Inv-loop stars s out₀ n₀ i₀ out n i =
     (i ≤ length s)
-    × ((n + length (normal stars 0 (drop i s)) ≡ length (normal stars 0 s))
-    × ((length out ≡ length out₀) × (sets out n (normal stars 0 (drop i s)) ≡ sets out₀ 0 (normal stars 0 s))))
+    × (n + length (normal stars 0 (drop i s)) ≡ length (normal stars 0 s))
+    × (length out ≡ length out₀)
+    × (sets out n (normal stars 0 (drop i s)) ≡ sets out₀ 0 (normal stars 0 s))
 
 abbrev μ-loop : tie.MeasureT-loop
 μ-loop stars s out₀ n₀ i₀ out n i = length s - i
 
 loop-holds : tie.Need-loop-holds Inv-loop μ-loop
-loop-holds c = (omega arith, (omega arith, (refl, refl)))
+loop-holds c = (omega arith, omega arith, refl, refl)
 
 shared-slice-read-x : tie.Need-shared-slice-read-x Inv-loop μ-loop
 shared-slice-read-x c = omega arith
@@ -31,36 +33,40 @@ shared-slice-read-x c = omega arith
 is-kept-requires : tie.Need-is-kept-requires Inv-loop μ-loop
 is-kept-requires c κs = tt
 
--- a replacement at the loop's place, and its turn
-abbrev Here : tie.At-loop Inv-loop μ-loop → Replacement → Type 0
-Here s p =
-    let a = s .before .before .before .args in ReplacementAt (a .stars) (getD (a .s .now) (s .loop .i) 0) (drop (s .loop .i + 1) (a .s .now)) p
+module _ (c : tie.At-loop Inv-loop μ-loop) where
+  abbrev entry : tie.Start Inv-loop μ-loop
+  entry = c .before .before .before
 
-abbrev Turns : tie.At-loop Inv-loop μ-loop → Replacement → Type 0
-Turns s p = let a = s .before .before .before .args in Turn (a .stars) (a .s .now) (s .loop .i) (measureOf p)
+  abbrev stars : Bool
+  stars = entry .args .stars
 
-turns : (c : tie.In-loop Inv-loop μ-loop) (p : Replacement) → Here (c .before) p → Turns (c .before) p
-turns c p h =
-    let s = c .before in
-    let a = s .before .before .before .args in
-    turn (a .stars) (a .s .now) (s .loop .i) (omega arith) (measureOf p) (measured _ _ _ p h)
+  abbrev text : List ℕ
+  text = entry .args .s .now
 
--- the octet that stays
-abbrev octet : tie.At-loop Inv-loop μ-loop → Replacement
-octet s = alone (getD (s .before .before .before .args .s .now) (s .loop .i) 0)
+  abbrev octet : ℕ
+  octet = getD text (c .loop .i) 0
 
-kept : (c : tie.Then1 Inv-loop μ-loop) → Here (c .before .before .before .before) (octet (c .before .before .before .before))
-kept c = replacement-kept _ _ _ (sym (c .before .is-kept .ensures) ∙ c .if1 .taken)
+-- an octet that stays
+module _ (c : tie.Then1 Inv-loop μ-loop) where
+  abbrev at : tie.At-loop Inv-loop μ-loop
+  at = c .before .before .before .before
 
-kept-turn : (c : tie.Then1 Inv-loop μ-loop) → Turns (c .before .before .before .before) (octet (c .before .before .before .before))
-kept-turn c = turns (c .before .before .before) (octet (c .before .before .before .before)) (kept c)
+  kept : ReplacementAt (stars at) (octet at) (drop (at .loop .i + 1) (text at)) (alone (octet at))
+  kept = replacement-kept _ _ _ (sym (c .before .is-kept .ensures) ∙ c .if1 .taken)
+
+  kept-turn : Turn (stars at) (text at) (at .loop .i) (measureOf (alone (octet at)))
+  kept-turn = turn (stars at) (text at) (at .loop .i) (omega arith) _ (measured _ _ _ (alone (octet at)) kept)
 
 -- what stands for one that doesn't
-changed : (c : tie.After-changed-at Inv-loop μ-loop) → Here (c .before .before .before .before .before) (c .changed-at .result)
-changed c = replacement-changed _ _ _ _ (sym (c .before .before .is-kept .ensures) ∙ c .before .if1 .left) (c .changed-at .ensures)
+module _ (c : tie.After-changed-at Inv-loop μ-loop) where
+  abbrev at2 : tie.At-loop Inv-loop μ-loop
+  at2 = c .before .before .before .before .before
 
-changed-turn : (c : tie.After-changed-at Inv-loop μ-loop) → Turns (c .before .before .before .before .before) (c .changed-at .result)
-changed-turn c = turns (c .before .before .before .before) (c .changed-at .result) (changed c)
+  changed : ReplacementAt (stars at2) (octet at2) (drop (at2 .loop .i + 1) (text at2)) (c .changed-at .result)
+  changed = replacement-changed _ _ _ _ (sym (c .before .before .is-kept .ensures) ∙ c .before .if1 .left) (c .changed-at .ensures)
+
+  changed-turn : Turn (stars at2) (text at2) (at2 .loop .i) (measureOf (c .changed-at .result))
+  changed-turn = turn (stars at2) (text at2) (at2 .loop .i) (omega arith) _ (measured _ _ _ (c .changed-at .result) changed)
 
 slice-write-out : tie.Need-slice-write-out Inv-loop μ-loop
 slice-write-out c = omega (arith, kept-turn c)
@@ -76,17 +82,12 @@ loop-less c = omega arith
 
 loop-again : tie.Need-loop-again Inv-loop μ-loop
 loop-again c =
-    let s = c .before .before .before .before in
-    let a = s .before .before .before .args in
+    let s = at c in
     let t = kept-turn c in (
       omega arith,
-      (
-        omega arith,
-        (
-          length-set (s .loop .out) (s .loop .n) (getD (a .s .now) (s .loop .i) 0) ∙ s .loop .inv .1 .1 .0,
-          sym (store-on (a .stars) (a .s .now) (s .loop .i) (omega arith) (octet s) (kept c) (s .loop .out) (s .loop .n)) ∙ s .loop .inv .1 .1 .1,
-        ),
-      ),
+      omega arith,
+      length-set (s .loop .out) (s .loop .n) (octet s) ∙ s .loop .inv .2,
+      sym (store-on (stars s) (text s) (s .loop .i) (omega arith) (alone (octet s)) (kept c) (s .loop .out) (s .loop .n)) ∙ s .loop .inv .3,
     )
 
 changed-at-requires : tie.Need-changed-at-requires Inv-loop μ-loop
@@ -95,40 +96,37 @@ changed-at-requires c κs = omega arith
 put-requires : tie.Need-put-requires Inv-loop μ-loop
 put-requires c κs = omega (arith, changed-turn (c .before))
 
+abbrev replaced : tie.After-struct-known Inv-loop μ-loop → tie.After-changed-at Inv-loop μ-loop
+replaced c = c .before .before .before .before .before
+
 add-i-2 : tie.Need-add-i-2 Inv-loop μ-loop
-add-i-2 c = omega (arith, changed-turn (c .before .before .before .before .before))
+add-i-2 c = omega (arith, changed-turn (replaced c))
 
 loop-less-2 : tie.Need-loop-less-2 Inv-loop μ-loop
-loop-less-2 c = omega (arith, changed-turn (c .before .before .before .before .before))
+loop-less-2 c = omega (arith, changed-turn (replaced c))
 
 loop-again-2 : tie.Need-loop-again-2 Inv-loop μ-loop
 loop-again-2 c =
-    let p = c .before .before .before .before .before in
-    let s = p .before .before .before .before .before in
-    let a = s .before .before .before .args in
+    let p = replaced c in
+    let s = at2 p in
     let w = c .before .before .before .put in
     let t = changed-turn p in (
       omega arith,
-      (
-        omega (arith, w .ensures .0),
-        (
-          w .kept .1 .0 ∙ s .loop .inv .1 .1 .0,
-          rw (w .ensures .0, w .ensures .1)
-              (sym (store-on (a .stars) (a .s .now) (s .loop .i) (omega arith) (p .changed-at .result) (changed p) (s .loop .out) (s .loop .n)) ∙ s .loop .inv .1 .1 .1),
-        ),
-      ),
+      omega (arith, w .ensures .0),
+      w .kept .1 .0 ∙ s .loop .inv .2,
+      rw (w .ensures .0, w .ensures .1)
+          (sym (store-on (stars s) (text s) (s .loop .i) (omega arith) (p .changed-at .result) (changed p) (s .loop .out) (s .loop .n)) ∙ s .loop .inv .3),
     )
 
 same-length : tie.Need-same-length Inv-loop μ-loop
-same-length c = c .before .loop .inv .1 .1 .0
+same-length c = c .before .loop .inv .2
 
 returns : tie.Need-returns Inv-loop μ-loop
 returns c =
     let s = c .before in
-    let a = s .before .before .before .args in
-    let e = normal-end (a .stars) (a .s .now) (s .loop .i) (omega arith) in
-    let k : length (normal (a .stars) 0 (drop (s .loop .i) (a .s .now))) ≡ 0 = rw e in
-    (omega arith, rw e at (s .loop .inv .1 .1 .1) ∙ sets-front (normal (a .stars) 0 (a .s .now)) (a .out .now) (s .before .before .before .pre))
+    let e = normal-end (stars s) (text s) (s .loop .i) (omega arith) in
+    let k : length (normal (stars s) 0 (drop (s .loop .i) (text s))) ≡ 0 = rw e in
+    (omega arith, rw e at (s .loop .inv .3) ∙ sets-front (normal (stars s) 0 (text s)) (entry s .args .out .now) (entry s .pre))
 
 pub write-spec : {M : Type 1} → statement M
 write-spec =
