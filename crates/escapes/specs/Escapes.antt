@@ -42,11 +42,11 @@ ChangedAt c l p = Holds (if isEscape c l then escapeAt l else encoded c) (taken 
 abbrev pub ReplacementAt : Bool → ℕ → List ℕ → Replacement → Type 0
 ReplacementAt stars c l p = Holds (replacement stars c l) (taken c l) p
 
--- m counts n octets, for k that it takes
-pub record Counts (n k : ℕ) (m : Measure) : Type 0 where
+-- m says n octets, for k that it takes
+pub record Measures (n k : ℕ) (m : Measure) : Type 0 where
   pub size : m .size ≡ n
   pub taken : m .taken ≡ k
 
 -- the octet c with l behind it, measured
 abbrev pub MeasureAt : Bool → ℕ → List ℕ → Measure → Type 0
-MeasureAt stars c l m = Counts (length (replacement stars c l)) (taken c l) m
+MeasureAt stars c l m = Measures (length (replacement stars c l)) (taken c l) m

@@ -1,9 +1,9 @@
 -- `escapes::measure_at` meets its contract. Assumes nothing.
-use Prim.Native.Nat.{_+_}
+use Prim.Native.Nat.{_+_, _<_}
 use mathlib.Core.Path.{_≡_, sym, _∙_}
 use mathlib.Core.Bool.{true}
 use native.Mathlib.Omega.{arith}
-use lib.ListN.{drop, getD}
+use lib.ListN.{length, drop, getD}
 use borrow.Author.Needs.{needs}
 use Rattle.protocol.specs.Normal.{isEscape}
 use Rattle.escapes.proofs.Forms.{escape-inside, escape-digits, measure-kept, measure-alone, measure-escape}
@@ -22,37 +22,41 @@ returns c = measure-kept _ _ _ (sym (c .before .is-kept .ensures) ∙ c .if1 .ta
 is-escape-at-requires : tie.Need-is-escape-at-requires
 is-escape-at-requires c κs = search needs
 
--- the test that was passed
-escapes : (c : tie.Then2) → let a = c .before .before .before .before .before .before .args in isEscape (getD (a .s .now) (a .at) 0) (drop (a .at + 1) (a .s .now)) ≡ true
-escapes c = sym (c .before .is-escape-at .ensures) ∙ c .if2 .taken
+-- where an escape stands
+module _ (c : tie.Then2) where
+  abbrev entry : tie.Start
+  entry = c .before .before .before .before .before .before
+
+  escapes : isEscape (getD (entry .args .s .now) (entry .args .at) 0) (drop (entry .args .at + 1) (entry .args .s .now)) ≡ true
+  escapes = sym (c .before .is-escape-at .ensures) ∙ c .if2 .taken
+
+  inside : entry .args .at + 2 < length (entry .args .s .now)
+  inside = escape-inside (entry .args .s .now) (entry .args .at) escapes
 
 add-escape-size : tie.Need-add-escape-size
-add-escape-size c =
-    let a = c .before .before .before .before .before .before .args in omega (arith, escape-inside (a .s .now) (a .at) (escapes c))
+add-escape-size c = search needs
 
 shared-slice-read-escape-size : tie.Need-shared-slice-read-escape-size
-shared-slice-read-escape-size c =
-    let a = c .before .before .before .before .before .before .before .args in omega (arith, escape-inside (a .s .now) (a .at) (escapes (c .before)))
+shared-slice-read-escape-size c = omega (arith, inside (c .before))
 
 add-escape-size-2 : tie.Need-add-escape-size-2
-add-escape-size-2 c =
-    let a = c .before .before .before .before .before .before .before .args in omega (arith, escape-inside (a .s .now) (a .at) (escapes (c .before)))
+add-escape-size-2 c = search needs
 
 shared-slice-read-escape-size-2 : tie.Need-shared-slice-read-escape-size-2
-shared-slice-read-escape-size-2 c =
-    let a = c .before .before .before .before .before .before .before .before .args in escape-inside (a .s .now) (a .at) (escapes (c .before .before))
+shared-slice-read-escape-size-2 c = inside (c .before .before)
 
 escape-size-requires : tie.Need-escape-size-requires
 escape-size-requires c κs =
-    let a = c .before .before .before .before .before .before .before .before .args in escape-digits (a .s .now) (a .at) (escapes (c .before .before))
+    let t = c .before .before in escape-digits (entry t .args .s .now) (entry t .args .at) (escapes t)
 
 returns-2 : tie.Need-returns-2
 returns-2 c =
-    let a = c .before .before .before .before .before .before .before .before .before .args in measure-escape (a .stars) (a .s .now) (a .at) _ (escapes (c .before .before .before)) (c .escape-size .ensures)
+    let t = c .before .before .before in measure-escape _ (entry t .args .s .now) (entry t .args .at) _ (escapes t) (c .escape-size .ensures)
 
 returns-3 : tie.Need-returns-3
 returns-3 c =
-    measure-alone _ _ _ (sym (c .before .before .before .is-kept .ensures) ∙ c .before .before .if1 .left) (sym (c .before .is-escape-at .ensures) ∙ c .if2 .left)
+    let e = c .before in
+    measure-alone _ _ _ (sym (e .before .before .is-kept .ensures) ∙ e .before .if1 .left) (sym (e .is-escape-at .ensures) ∙ c .if2 .left)
 
 pub measure-at-spec : {M : Type 1} → statement M
 measure-at-spec =
