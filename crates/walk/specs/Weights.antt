@@ -12,10 +12,10 @@ use Rattle.walk.specs.declared.Weighed.{Weighed}
 abbrev pub CountFits : List ℕ → List ℕ → Type 0
 CountFits pattern path = weight (shapeOf pattern) * length path < 2 ^ 64
 
--- what a walk found, with the pattern's weight: 0 where it is no match
+-- a walk with the pattern's weight: 0 where it is no match
 abbrev pub weighedWalk : Walked → ℕ → Weighed
-weighedWalk w n = record { found = w .stood; weight = if w .stood then n else 0; compared = w .count }
+weighedWalk w n = record { weight = if w .stood then n else 0; compared = w .count }
 
--- what a raw pattern's walk over a normalised path found
+-- the same of a raw pattern's walk over a normalised path
 unfoldable pub weighed : List ℕ → List ℕ → Weighed
 weighed pattern path = weighedWalk (walk (shapeOf pattern) path) (weight (shapeOf pattern))

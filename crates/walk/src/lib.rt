@@ -15,9 +15,8 @@ ghost use Rattle.walk.specs.Weights.{CountFits, weighedWalk, weighed};
 use normal::Written;
 use protocol::Walked;
 
-// What a walk found, the pattern's weight where that is a match, and the pairs compared.
+// A pattern's weight where it matches, 0 where it doesn't, and the pairs compared.
 pub struct Weighed {
-    pub found: bool,
     pub weight: usize,
     pub compared: usize,
 }
@@ -94,19 +93,17 @@ pub fn walk_pattern(pattern: &[u8], path: &[u8], scratch: &mut [u8]) -> Walked
     walk_text(&pattern[..end], anchored, path, scratch)
 }
 
-// What a walk found, for a pattern of that weight.
+// What a walk comes to, for a pattern of that weight.
 fn weighed_walk(w: Walked, weight: usize) -> Weighed
     ensures { λ r. ⌜ r ≡ weighedWalk w weight ⌝ }
 {
     if w.stood {
         return Weighed {
-            found: true,
             weight,
             compared: w.count,
         };
     }
     Weighed {
-        found: false,
         weight: 0,
         compared: w.count,
     }
@@ -128,7 +125,7 @@ fn weigh_literal(pattern: &[u8], path: &[u8]) -> Weighed
     weighed_walk(w, pattern.len())
 }
 
-// A pattern's match, weight and count, out of one walk.
+// A pattern's weight and count, out of one walk.
 pub fn weigh(pattern: &[u8], path: &[u8], scratch: &mut [u8]) -> Weighed
     requires { ⌜ (length (now path) ≤ length (now scratch)) × (weight (shapeOf (now pattern)) < 2 ^ 64) × CountFits (now pattern) (now path) ⌝ }
     ensures { λ r. ⌜ r ≡ weighed (now (pattern .entry)) (now (path .entry)) ⌝ }

@@ -18,15 +18,18 @@ normalise-run-requires c κs = search needs
 enum-known-n : tie.Need-enum-known-n
 enum-known-n c = search needs
 
+abbrev entry : tie.After-normalise-run → tie.Start
+entry c = c .before .before .before .before .before
+
 -- the run in the scratch
-fits : (c : tie.After-known-told)
-    → let s = c .before .before .before .before .before in
-    Fits (s .before .before .before .before .before .args .run .now) (s .normalise-run .last .1 .0) (c .before .n .given .0 .0)
-fits c =
-    let s = c .before .before .before .before .before in
-    let a = s .before .before .before .before .before .args in
-    let r = s .normalise-run in
-    run-fits (a .run .now) (a .scratch .now) (c .before .n .given .0 .0) (r .last .1 .0) (sym (r .ensures .0) ∙ c .before .n .given .1) (r .ensures .1) (r .kept .1 .0)
+module _ (c : tie.After-known-told) where
+  abbrev written : tie.After-normalise-run
+  written = c .before .before .before .before .before
+
+  fits : Fits (entry written .args .run .now) (written .normalise-run .last .1 .0) (c .before .n .given .0 .0)
+  fits =
+      let r = written .normalise-run in
+      run-fits _ (entry written .args .scratch .now) _ _ (sym (r .ensures .0) ∙ c .before .n .given .1) (r .ensures .1) (r .kept .1 .0)
 
 slice-reshare-prefix-first-run : tie.Need-slice-reshare-prefix-first-run
 slice-reshare-prefix-first-run c = fits c .room
@@ -49,19 +52,17 @@ same-length c = search needs
 returns : tie.Need-returns
 returns c =
     let t = c .before .before in
-    let s = t .before .before .before .before .before in
-    let a = s .before .before .before .before .before .args in
-    (c .first-run .ensures ∙ ap (λ (r : List ℕ). first (a .last) r (a .path .now)) (fits t .read), s .normalise-run .ensures .1)
+    let a = entry (written t) .args in
+    (c .first-run .ensures ∙ ap (λ (r : List ℕ). first (a .last) r (a .path .now)) (fits t .read), written t .normalise-run .ensures .1)
 
 same-length-2 : tie.Need-same-length-2
 same-length-2 c = search needs
 
 returns-2 : tie.Need-returns-2
 returns-2 c =
-    let t = c .before in
-    let s = t .before .before .before .before in
-    let a = s .before .before .before .before .before .args in
-    let l = run-outgrows (a .run .now) (a .scratch .now) (sym (s .normalise-run .ensures .0) ∙ t .enum-told .given .1) in
+    let s = c .before .before .before .before .before in
+    let a = entry s .args in
+    let l = run-outgrows (a .run .now) (a .scratch .now) (sym (s .normalise-run .ensures .0) ∙ c .before .enum-told .given .1) in
     (c .fail .ensures ∙ sym (first-short (normalRun (a .run .now)) (a .path .now) (a .last) (omega (arith, l))), s .normalise-run .ensures .1)
 
 pub first-raw-spec : {M : Type 1} → statement M

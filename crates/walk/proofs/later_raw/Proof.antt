@@ -18,15 +18,18 @@ normalise-run-requires c κs = search needs
 enum-known-n : tie.Need-enum-known-n
 enum-known-n c = search needs
 
+abbrev entry : tie.After-normalise-run → tie.Start
+entry c = c .before .before .before .before .before
+
 -- the run in the scratch
-fits : (c : tie.After-known-told)
-    → let s = c .before .before .before .before .before in
-    Fits (s .before .before .before .before .before .args .run .now) (s .normalise-run .last .1 .0) (c .before .n .given .0 .0)
-fits c =
-    let s = c .before .before .before .before .before in
-    let a = s .before .before .before .before .before .args in
-    let r = s .normalise-run in
-    run-fits (a .run .now) (a .scratch .now) (c .before .n .given .0 .0) (r .last .1 .0) (sym (r .ensures .0) ∙ c .before .n .given .1) (r .ensures .1) (r .kept .1 .0)
+module _ (c : tie.After-known-told) where
+  abbrev written : tie.After-normalise-run
+  written = c .before .before .before .before .before
+
+  fits : Fits (entry written .args .run .now) (written .normalise-run .last .1 .0) (c .before .n .given .0 .0)
+  fits =
+      let r = written .normalise-run in
+      run-fits _ (entry written .args .scratch .now) _ _ (sym (r .ensures .0) ∙ c .before .n .given .1) (r .ensures .1) (r .kept .1 .0)
 
 slice-reshare-prefix-later-run : tie.Need-slice-reshare-prefix-later-run
 slice-reshare-prefix-later-run c = fits c .room
@@ -35,10 +38,7 @@ slice-aggregate-later-run : tie.Need-slice-aggregate-later-run
 slice-aggregate-later-run c = sym (length-take-le _ _ (fits (c .before) .room))
 
 later-run-requires : tie.Need-later-run-requires
-later-run-requires c κs =
-    let s = c .before .before .before .before .before .before in
-    let p = s .before .before .before .before .before .pre in
-    rw (fits (c .before) .read) (p .1, p .2, p .3)
+later-run-requires c κs = let p = entry (written (c .before)) .pre in rw (fits (c .before) .read) (p .1, p .2, p .3)
 
 enum-told : tie.Need-enum-told
 enum-told c = search needs
@@ -52,20 +52,18 @@ same-length c = search needs
 returns : tie.Need-returns
 returns c =
     let t = c .before .before in
-    let s = t .before .before .before .before .before in
-    let a = s .before .before .before .before .before .args in
-    (c .later-run .ensures ∙ ap (λ (r : List ℕ). next (a .last) r (a .path .now) (a .w)) (fits t .read), s .normalise-run .ensures .1)
+    let a = entry (written t) .args in
+    (c .later-run .ensures ∙ ap (λ (r : List ℕ). next (a .last) r (a .path .now) (a .w)) (fits t .read), written t .normalise-run .ensures .1)
 
 same-length-2 : tie.Need-same-length-2
 same-length-2 c = search needs
 
 returns-2 : tie.Need-returns-2
 returns-2 c =
-    let t = c .before in
-    let s = t .before .before .before .before in
-    let a = s .before .before .before .before .before .args in
-    let l = run-outgrows (a .run .now) (a .scratch .now) (sym (s .normalise-run .ensures .0) ∙ t .enum-told .given .1) in
-    (c .fail .ensures ∙ sym (next-short (normalRun (a .run .now)) (a .path .now) (a .w) (a .last) (s .before .before .before .before .before .pre .1) (omega (arith, l))), s .normalise-run .ensures .1)
+    let s = c .before .before .before .before .before in
+    let a = entry s .args in
+    let l = run-outgrows (a .run .now) (a .scratch .now) (sym (s .normalise-run .ensures .0) ∙ c .before .enum-told .given .1) in
+    (c .fail .ensures ∙ sym (next-short (normalRun (a .run .now)) (a .path .now) (a .w) (a .last) (entry s .pre .1) (omega (arith, l))), s .normalise-run .ensures .1)
 
 pub later-raw-spec : {M : Type 1} → statement M
 later-raw-spec =
