@@ -11,31 +11,35 @@ use Rattle.walk.proofs.Scratch.{front-read}
 use Rattle.matching.proofs.walk_in.Statement.{statement}
 use Rattle.matching.proofs.walk_in.Tie as tie
 
+abbrev entry : tie.After-write-arg → tie.Start
+entry c = c .before .before .before .before .before
+
 write-requires : tie.Need-write-requires
 unfolding normalPath
-write-requires c κs = c .before .before .before .before .before .pre .0
+write-requires c κs = entry c .pre .0
 
 slice-reshare-prefix-walk-pattern : tie.Need-slice-reshare-prefix-walk-pattern
 unfolding normalPath
 slice-reshare-prefix-walk-pattern c =
-    let w = c .before .before in
-    omega (arith, w .write .ensures .0, w .write .kept .1 .1 .0, w .before .before .before .before .before .before .pre .0)
+    let w = c .before .before in omega (arith, w .write .ensures .0, w .write .kept .1 .1 .0, entry (w .before) .pre .0)
 
 slice-aggregate-walk-pattern : tie.Need-slice-aggregate-walk-pattern
 slice-aggregate-walk-pattern c = sym (length-take-le _ _ (slice-reshare-prefix-walk-pattern (c .before)))
 
-lent : (c : tie.After-write)
-    → take (c .write .result) (c .write .last .1 .1 .0) ≡ normalPath (c .before .before .before .before .before .before .args .path .now)
-unfolding normalPath
-lent c =
-    let a = c .before .before .before .before .before .before .args in
-    front-read (normalPath (a .path .now)) (a .buffer .now) (c .write .last .1 .1 .0) (c .write .result) (c .write .ensures .0) (c .write .ensures .1)
+module _ (c : tie.After-walk-pattern-arg2) where
+  abbrev written : tie.After-write
+  written = c .before .before .before .before
+
+  abbrev start : tie.Start
+  start = entry (written .before)
+
+  lent : take (written .write .result) (written .write .last .1 .1 .0) ≡ normalPath (start .args .path .now)
+  unfolding normalPath
+  lent =
+      front-read (normalPath (start .args .path .now)) (start .args .buffer .now) _ _ (written .write .ensures .0) (written .write .ensures .1)
 
 walk-pattern-requires : tie.Need-walk-pattern-requires
-walk-pattern-requires c κs =
-    let w = c .before .before .before .before in
-    let p = w .before .before .before .before .before .before .pre in
-    rw (lent w) (p .1, p .2)
+walk-pattern-requires c κs = rw (lent c) (start c .pre .1, start c .pre .2)
 
 same-length : tie.Need-same-length
 same-length c = search needs
@@ -45,9 +49,8 @@ same-length-2 c = search needs
 
 returns : tie.Need-returns
 returns c =
-    let w = c .before .before .before .before .before .before .before in
-    let a = w .before .before .before .before .before .before .args in
-    c .before .before .walk-pattern .ensures .0 ∙ ap (walk (shapeOf (a .pattern .now))) (lent w)
+    let w = c .before .before in
+    w .walk-pattern .ensures .0 ∙ ap (walk (shapeOf (start (w .before) .args .pattern .now))) (lent (w .before))
 
 pub walk-in-spec : {M : Type 1} → statement M
 walk-in-spec =

@@ -1,6 +1,7 @@
 -- `readable::all_token` meets its contract: the octets that are left give the whole text's answer. Assumes nothing.
-use Prim.Native.Nat.{_-_}
+use Prim.Native.Nat.{ℕ, _-_}
 use mathlib.Core.Path.{_≡_, refl, sym, _∙_}
+use mathlib.Core.List.{List}
 use native.Mathlib.Omega.{arith}
 use lib.ListN.{length, drop}
 use borrow.Author.Tests.{not-true, not-false}
@@ -25,11 +26,13 @@ shared-slice-read-is-token c = omega arith
 is-token-requires : tie.Need-is-token-requires Inv-loop μ-loop
 is-token-requires c κs = tt
 
+abbrev text : tie.At-loop Inv-loop μ-loop → List ℕ
+text c = c .before .before .args .s .now
+
 returns : tie.Need-returns Inv-loop μ-loop
 returns c =
-    let s = c .before .before .before .before .before .before .args .s .now in
-    let l = c .before .before .before .before .loop in
-    sym (all-here token s (l .i) 0 (omega arith) (sym (c .before .is-token .ensures) ∙ not-true _ (c .if1 .taken))) ∙ l .inv
+    let s = c .before .before .before .before in
+    sym (all-here token (text s) (s .loop .i) 0 (omega arith) (sym (c .before .is-token .ensures) ∙ not-true _ (c .if1 .taken))) ∙ s .loop .inv
 
 add-i : tie.Need-add-i Inv-loop μ-loop
 add-i c = omega arith
@@ -39,15 +42,12 @@ loop-less c = omega arith
 
 loop-again : tie.Need-loop-again Inv-loop μ-loop
 loop-again c =
-    let s = c .before .before .before .before .before .before .args .s .now in
-    let l = c .before .before .before .before .loop in
-    sym (all-on token s (l .i) 0 (omega arith) (sym (c .before .is-token .ensures) ∙ not-false _ (c .if1 .left))) ∙ l .inv
+    let s = c .before .before .before .before in
+    sym (all-on token (text s) (s .loop .i) 0 (omega arith) (sym (c .before .is-token .ensures) ∙ not-false _ (c .if1 .left))) ∙ s .loop .inv
 
 returns-2 : tie.Need-returns-2 Inv-loop μ-loop
 returns-2 c =
-    let s = c .before .before .before .args .s .now in
-    let l = c .before .loop in
-    sym (all-end token s (l .i) (omega arith)) ∙ l .inv
+    let s = c .before in sym (all-end token (text s) (s .loop .i) (omega arith)) ∙ s .loop .inv
 
 pub all-token-spec : {M : Type 1} → statement M
 all-token-spec =

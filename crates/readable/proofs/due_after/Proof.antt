@@ -42,43 +42,43 @@ never-due-requires c κs = tt
 
 returns : tie.Need-returns
 unfolding rows all
-returns c = due-in 6 0xE0 (c .before .before .args .x) refl refl (c .due-octets .ensures) (omega arith) (omega arith) (omega arith)
+returns c = due-in 6 0xE0 _ refl refl (c .due-octets .ensures) (omega arith) (omega arith) (omega arith)
 
 returns-2 : tie.Need-returns-2
 unfolding rows all
-returns-2 c = due-in 8 0xED (c .before .before .args .x) refl refl (c .due-octets2 .ensures) (omega arith) (omega arith) (omega arith)
+returns-2 c = due-in 8 0xED _ refl refl (c .due-octets2 .ensures) (omega arith) (omega arith) (omega arith)
 
 returns-3 : tie.Need-returns-3
 unfolding rows all
-returns-3 c = due-in 10 0xF0 (c .before .before .args .x) refl refl (c .due-octets3 .ensures) (omega arith) (omega arith) (omega arith)
+returns-3 c = due-in 10 0xF0 _ refl refl (c .due-octets3 .ensures) (omega arith) (omega arith) (omega arith)
 
 returns-4 : tie.Need-returns-4
 unfolding rows all
-returns-4 c = due-in 12 0xF4 (c .before .before .args .x) refl refl (c .due-octets4 .ensures) (omega arith) (omega arith) (omega arith)
+returns-4 c = due-in 12 0xF4 _ refl refl (c .due-octets4 .ensures) (omega arith) (omega arith) (omega arith)
 
 returns-5 : tie.Need-returns-5
 unfolding rows all
-returns-5 c = due-in 1 0x21 (c .before .before .before .before .before .args .x) refl refl (c .due-octets5 .ensures) (omega arith) (omega arith) (omega arith)
+returns-5 c = due-in 1 0x21 _ refl refl (c .due-octets5 .ensures) (omega arith) (omega arith) (omega arith)
 
 returns-6 : tie.Need-returns-6
 unfolding rows all
-returns-6 c = due-in 3 0x24 (c .before .before .before .before .before .before .before .args .x) refl refl (c .due-octets6 .ensures) (omega arith) (omega arith) (omega arith)
+returns-6 c = due-in 3 0x24 _ refl refl (c .due-octets6 .ensures) (omega arith) (omega arith) (omega arith)
 
 returns-7 : tie.Need-returns-7
 unfolding rows all
-returns-7 c = due-in 5 0xC2 (c .before .before .before .before .args .x) refl refl (c .due-octets7 .ensures) (omega arith) (omega arith) (omega arith)
+returns-7 c = due-in 5 0xC2 _ refl refl (c .due-octets7 .ensures) (omega arith) (omega arith) (omega arith)
 
 returns-8 : tie.Need-returns-8
 unfolding rows all
-returns-8 c = due-in 7 0xE1 (c .before .before .before .before .before .args .x) refl refl (c .due-octets8 .ensures) (omega arith) (omega arith) (omega arith)
+returns-8 c = due-in 7 0xE1 _ refl refl (c .due-octets8 .ensures) (omega arith) (omega arith) (omega arith)
 
 returns-9 : tie.Need-returns-9
 unfolding rows all
-returns-9 c = due-in 9 0xEE (c .before .before .before .before .before .before .args .x) refl refl (c .due-octets9 .ensures) (omega arith) (omega arith) (omega arith)
+returns-9 c = due-in 9 0xEE _ refl refl (c .due-octets9 .ensures) (omega arith) (omega arith) (omega arith)
 
 returns-10 : tie.Need-returns-10
 unfolding rows all
-returns-10 c = due-in 11 0xF1 (c .before .before .before .before .before .before .before .args .x) refl refl (c .due-octets10 .ensures) (omega arith) (omega arith) (omega arith)
+returns-10 c = due-in 11 0xF1 _ refl refl (c .due-octets10 .ensures) (omega arith) (omega arith) (omega arith)
 
 returns-11 : tie.Need-returns-11
 unfolding rows all

@@ -27,6 +27,9 @@ loop-holds : tie.Need-loop-holds Inv-loop μ-loop
 loop-holds c =
     rw (c .before .due-octets .ensures, c .ordinary-front .ensures) (well-formed-front (c .before .before .before .args .s .now))
 
+abbrev text : tie.At-loop Inv-loop μ-loop → List ℕ
+text c = c .before .before .before .before .args .s .now
+
 shared-slice-read-due-past : tie.Need-shared-slice-read-due-past Inv-loop μ-loop
 shared-slice-read-due-past c = omega arith
 
@@ -41,20 +44,18 @@ loop-less c = omega arith
 
 loop-again : tie.Need-loop-again Inv-loop μ-loop
 loop-again c =
-    let s = c .before .before .before .before .before .before .before .args .s .now in
-    let i = c .before .before .before .loop .i in
-    let due = c .before .before .before .loop .due in
-    ap (λ (d : List Range). wellFormed d (drop (i + 1) s)) (c .due-past .ensures)
-    ∙ sym (well-formed-past (dueRanges due) (getD s i 0) (drop (i + 1) s))
-    ∙ ap (λ (l : List ℕ). wellFormed (dueRanges due) l) (sym (drop-one s i 0 (omega arith)))
-    ∙ c .before .before .before .loop .inv
+    let s = text (c .before .before .before) in
+    let l = c .before .before .before .loop in
+    ap (λ (d : List Range). wellFormed d (drop (l .i + 1) s)) (c .due-past .ensures)
+    ∙ sym (well-formed-past (dueRanges (l .due)) (getD s (l .i) 0) (drop (l .i + 1) s))
+    ∙ ap (λ (r : List ℕ). wellFormed (dueRanges (l .due)) r) (sym (drop-one s (l .i) 0 (omega arith)))
+    ∙ l .inv
 
 returns : tie.Need-returns Inv-loop μ-loop
 returns c =
-    let s = c .before .before .before .before .before .before .args .s .now in
-    let i = c .before .before .loop .i in
-    let due = c .before .before .loop .due in
-    sym (well-formed-end (due .low) (due .high) (due .more) i s (omega arith)) ∙ c .before .before .loop .inv
+    let s = c .before .before in
+    let due = s .loop .due in
+    sym (well-formed-end (due .low) (due .high) (due .more) (s .loop .i) (text s) (omega arith)) ∙ s .loop .inv
 
 pub well-formed-spec : {M : Type 1} → statement M
 well-formed-spec =

@@ -12,17 +12,17 @@ use Rattle.walk.proofs.walk_pattern.Tie as tie
 text-length-requires : tie.Need-text-length-requires
 text-length-requires c κs = search needs
 
+abbrev entry : tie.After-text-length → tie.Start
+entry c = c .before .before .before .before
+
 slice-aggregate-walk-text : tie.Need-slice-aggregate-walk-text
-slice-aggregate-walk-text c =
-    let pattern = c .before .before .before .before .before .args .pattern .now in
-    rw (c .before .text-length .ensures, text-front pattern)
+slice-aggregate-walk-text c = rw (c .before .text-length .ensures, text-front (entry (c .before) .args .pattern .now))
 
 walk-text-requires : tie.Need-walk-text-requires
 walk-text-requires c κs =
-    let p = c .before .before .before .before .before .before in
-    let a = p .args in
-    let l = c .before .before .text-length in
-    (p .pre .0, rw (pattern-walk (a .pattern .now) (a .path .now) (l .result) (l .ensures)) (omega (arith, p .pre .1, walk-bound (shapeOf (a .pattern .now)) (a .path .now))))
+    let t = c .before .before in
+    let p = entry t in
+    (p .pre .0, rw (pattern-walk (p .args .pattern .now) (p .args .path .now) _ (t .text-length .ensures)) (omega (arith, p .pre .1, walk-bound (shapeOf (p .args .pattern .now)) (p .args .path .now))))
 
 same-length : tie.Need-same-length
 same-length c = search needs
@@ -30,10 +30,10 @@ same-length c = search needs
 returns : tie.Need-returns
 returns c =
     let w = c .before .before in
-    let a = w .before .before .before .before .before .before .before .args in
-    let l = w .before .before .before .text-length in (
-      w .walk-text .ensures .0 ∙ pattern-walk (a .pattern .now) (a .path .now) (l .result) (l .ensures),
-      w .walk-text .ensures .1 ∙ pattern-scratch (a .pattern .now) (a .path .now) (l .result) (l .ensures) (a .scratch .now),
+    let t = w .before .before .before in
+    let a = entry t .args in (
+      w .walk-text .ensures .0 ∙ pattern-walk (a .pattern .now) (a .path .now) _ (t .text-length .ensures),
+      w .walk-text .ensures .1 ∙ pattern-scratch (a .pattern .now) (a .path .now) _ (t .text-length .ensures) (a .scratch .now),
     )
 
 pub walk-pattern-spec : {M : Type 1} → statement M
