@@ -45,41 +45,41 @@ module _ (c : tie.After-text-before) where
   unfolding octets zeros
   ended = build-on (built-none zeros) 1 (omega arith) endOf (omega arith) (c .text-before .ensures .0) (c .text-before .ensures .1)
 
+abbrev ended-at : tie.After-octets3 → tie.After-text-before
+ended-at c = c .before .before .before
+
 module _ (c : tie.After-named-before) where
   abbrev given2 : Decision
-  given2 = given (c .before .before .before .before)
+  given2 = given (ended-at (c .before))
 
   compared : Built zeros 31 (fromCompared given2) (c .named-before .result) (c .named-before .last .1 .1 .0)
   unfolding octets zeros
-  compared =
-      build-on (ended (c .before .before .before .before)) 30 (omega arith) (octets " compared " ++ decimal (given2 .compared))
-      (named-size (given2 .compared) (octets " compared "))
-      (c .named-before .ensures .0)
-      (c .named-before .ensures .1)
+  compared = build-on (ended (ended-at (c .before))) 30 (omega arith) _ (named-size (given2 .compared) (octets " compared ")) (c .named-before .ensures .0) (c .named-before .ensures .1)
+
+abbrev compared-at : tie.After-octets5 → tie.After-named-before
+compared-at c = c .before .before .before
 
 module _ (c : tie.After-named-before2) where
   abbrev given3 : Decision
-  given3 = given2 (c .before .before .before .before)
+  given3 = given2 (compared-at (c .before))
 
   unread : Built zeros 59 (fromUnread given3) (c .named-before2 .result) (c .named-before2 .last .1 .1 .0)
   unfolding octets zeros
-  unread =
-      build-on (compared (c .before .before .before .before)) 28 (omega arith) (octets " unread " ++ decimal (given3 .unread))
-      (named-size (given3 .unread) (octets " unread "))
-      (c .named-before2 .ensures .0)
-      (c .named-before2 .ensures .1)
+  unread = build-on (compared (compared-at (c .before))) 28 (omega arith) _ (named-size (given3 .unread) (octets " unread ")) (c .named-before2 .ensures .0) (c .named-before2 .ensures .1)
+
+abbrev unread-at : tie.After-octets7 → tie.After-named-before2
+unread-at c = c .before .before .before
 
 module _ (c : tie.After-named-before3) where
   abbrev given4 : Decision
-  given4 = given3 (c .before .before .before .before)
+  given4 = given3 (unread-at (c .before))
 
   line : Built zeros 85 (fromLine given4) (c .named-before3 .result) (c .named-before3 .last .1 .1 .0)
   unfolding octets zeros
-  line =
-      build-on (unread (c .before .before .before .before)) 26 (omega arith) (octets " line " ++ decimal (given4 .line .number))
-      (named-size (given4 .line .number) (octets " line "))
-      (c .named-before3 .ensures .0)
-      (c .named-before3 .ensures .1)
+  line = build-on (unread (unread-at (c .before))) 26 (omega arith) _ (named-size (given4 .line .number) (octets " line ")) (c .named-before3 .ensures .0) (c .named-before3 .ensures .1)
+
+abbrev line-at : tie.After-octets9 → tie.After-named-before3
+line-at c = c .before .before
 
 slice-aggregate-text-before : tie.Need-slice-aggregate-text-before
 slice-aggregate-text-before c = search needs
@@ -98,9 +98,7 @@ slice-aggregate-named-before-2 c = search needs
 
 named-before-requires : tie.Need-named-before-requires
 unfolding octets zeros
-named-before-requires c κs =
-    let t = c .before .before .before in
-    built-room (ended t) 30 (omega arith) (length (octets " compared " ++ decimal (given t .compared))) (named-size (given t .compared) (octets " compared "))
+named-before-requires c κs = built-room (ended (ended-at c)) 30 (omega arith) _ (named-size (given (ended-at c) .compared) (octets " compared "))
 
 slice-aggregate-named-before-3 : tie.Need-slice-aggregate-named-before-3
 slice-aggregate-named-before-3 c = search needs
@@ -110,9 +108,7 @@ slice-aggregate-named-before-4 c = search needs
 
 named-before-requires-2 : tie.Need-named-before-requires-2
 unfolding octets zeros
-named-before-requires-2 c κs =
-    let t = c .before .before .before in
-    built-room (compared t) 28 (omega arith) (length (octets " unread " ++ decimal (given2 t .unread))) (named-size (given2 t .unread) (octets " unread "))
+named-before-requires-2 c κs = built-room (compared (compared-at c)) 28 (omega arith) _ (named-size (given2 (compared-at c) .unread) (octets " unread "))
 
 slice-aggregate-named-before-5 : tie.Need-slice-aggregate-named-before-5
 slice-aggregate-named-before-5 c = search needs
@@ -122,24 +118,20 @@ slice-aggregate-named-before-6 c = search needs
 
 named-before-requires-3 : tie.Need-named-before-requires-3
 unfolding octets zeros
-named-before-requires-3 c κs =
-    let t = c .before .before .before in
-    built-room (unread t) 26 (omega arith) (length (octets " line " ++ decimal (given3 t .line .number))) (named-size (given3 t .line .number) (octets " line "))
+named-before-requires-3 c κs = built-room (unread (unread-at c)) 26 (omega arith) _ (named-size (given3 (unread-at c) .line .number) (octets " line "))
 
 slice-aggregate-side-before : tie.Need-slice-aggregate-side-before
 slice-aggregate-side-before c = search needs
 
 side-before-requires : tie.Need-side-before-requires
 unfolding zeros
-side-before-requires c κs =
-    let t = c .before .before in
-    built-room (line t) 8 (omega arith) (length (sideText (given4 t .side))) (side-size (given4 t .side))
+side-before-requires c κs = built-room (line (line-at c)) 8 (omega arith) _ (side-size (given4 (line-at c) .side))
 
 returns : tie.Need-returns
 unfolding zeros
 returns c =
-    let t = c .before .before .before .before in
     let s = c .before .side-before .ensures in
+    let t = line-at (c .before .before) in
     rw (whole (given4 t))
     (built-holds (build-on (line t) 8 (omega arith) (sideText (given4 t .side)) (side-size (given4 t .side)) (s .0) (s .1)) (omega arith))
 

@@ -1,4 +1,5 @@
 -- `output::refused_line` meets its contract. Assumes nothing.
+use Prim.Native.Nat.{ℕ}
 use mathlib.Core.List.{_++_, append-assoc}
 use native.Mathlib.Omega.{arith}
 use lib.ListN.{length}
@@ -15,12 +16,17 @@ unfolding octets zeros
 ended c =
     build-on (built-none zeros) 1 (omega arith) (octets "\n") (omega arith) (c .text-before .ensures .0) (c .text-before .ensures .1)
 
-numbered : (c : tie.After-decimal-before)
-    → Built zeros 21 (decimal (c .before .before .before .before .before .before .args .number) ++ octets "\n") (c .decimal-before .result) (c .decimal-before .last .1 .0)
-unfolding zeros
-numbered c =
-    let n = c .before .before .before .before .before .before .args .number in
-    build-on (ended (c .before .before .before)) 20 (omega arith) (decimal n) (decimal-size n) (c .decimal-before .ensures .0) (c .decimal-before .ensures .1)
+abbrev ended-at : tie.After-octets3 → tie.After-text-before
+ended-at c = c .before .before
+
+module _ (c : tie.After-decimal-before) where
+  abbrev number : ℕ
+  number = ended-at (c .before) .before .before .before .args .number
+
+  numbered : Built zeros 21 (decimal number ++ octets "\n") (c .decimal-before .result) (c .decimal-before .last .1 .0)
+  unfolding zeros
+  numbered =
+      build-on (ended (ended-at (c .before))) 20 (omega arith) (decimal number) (decimal-size number) (c .decimal-before .ensures .0) (c .decimal-before .ensures .1)
 
 slice-aggregate-text-before : tie.Need-slice-aggregate-text-before
 slice-aggregate-text-before c = search needs
@@ -36,9 +42,7 @@ slice-aggregate-decimal-before c = search needs
 
 decimal-before-requires : tie.Need-decimal-before-requires
 unfolding zeros
-decimal-before-requires c κs =
-    let n = c .before .before .before .before .before .args .number in
-    built-room (ended (c .before .before)) 20 (omega arith) (length (decimal n)) (decimal-size n)
+decimal-before-requires c κs = built-room (ended (ended-at c)) 20 (omega arith) _ (decimal-size _)
 
 slice-aggregate-text-before-3 : tie.Need-slice-aggregate-text-before-3
 slice-aggregate-text-before-3 c = search needs
@@ -46,19 +50,20 @@ slice-aggregate-text-before-3 c = search needs
 slice-aggregate-text-before-4 : tie.Need-slice-aggregate-text-before-4
 slice-aggregate-text-before-4 c = search needs
 
+abbrev numbered-at : tie.After-octets5 → tie.After-decimal-before
+numbered-at c = c .before .before .before
+
 text-before-requires-2 : tie.Need-text-before-requires-2
 unfolding zeros
-text-before-requires-2 c κs = built-room (numbered (c .before .before .before)) 8 (omega arith) 8 (omega arith)
+text-before-requires-2 c κs = built-room (numbered (numbered-at c)) 8 (omega arith) 8 (omega arith)
 
 returns : tie.Need-returns
 unfolding octets refusedText zeros
 returns c =
     let t = c .before in
-    let d = t .before .before .before .before in
-    let n = d .before .before .before .before .before .before .args .number in
-    let w = t .text-before2 .ensures in
-    rw (append-assoc (octets "refused ") (decimal n) (octets "\n"))
-    (built-holds (build-on (numbered d) 8 (omega arith) (octets "refused ") (omega arith) (w .0) (w .1)) (omega arith))
+    let d = numbered-at (t .before) in
+    rw (append-assoc (octets "refused ") (decimal (number d)) (octets "\n"))
+    (built-holds (build-on (numbered d) 8 (omega arith) (octets "refused ") (omega arith) (t .text-before2 .ensures .0) (t .text-before2 .ensures .1)) (omega arith))
 
 pub refused-line-spec : {M : Type 1} → statement M
 refused-line-spec =
