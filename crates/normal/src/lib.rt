@@ -44,7 +44,7 @@ pub fn write(stars: bool, s: &[u8], out: &mut [u8]) -> usize
     n
 }
 
-// The normalised octets, counted as far as they fit.
+// The normalised octets, measured as far as they fit.
 fn size_within(stars: bool, s: &[u8], room: usize) -> Size
     ensures { λ r. ⌜ r ≡ sizeWithin room (length (normal stars 0 (now (s .entry)))) ⌝ }
 {

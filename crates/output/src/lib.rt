@@ -1,7 +1,7 @@
 // What the program reads and writes: the parts of its input, and the line of its output.
 
 pub mod parts; // parts.rt: the lines of the input, one after the other
-pub mod before; // before.rt: texts and numbers, put in front of what stands behind them
+mod before; // before.rt: texts and numbers, put in front of what stands behind them
 
 ghost use Rattle.protocol.specs.Program.{refusedText, answerText, textBy};
 ghost use Rattle.output.specs.Written.{Holds};

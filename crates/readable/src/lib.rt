@@ -84,7 +84,7 @@ pub fn ordinary_front(s: &[u8]) -> usize
 }
 
 // Whole characters only.
-pub fn well_formed(s: &[u8]) -> bool
+fn well_formed(s: &[u8]) -> bool
     ensures { λ r. ⌜ r ≡ wellFormed [] (now (s .entry)) ⌝ }
 {
     let mut due = due_octets(0, 0, 0);
@@ -115,7 +115,7 @@ pub fn readable_pattern(p: &[u8]) -> bool
 }
 
 // Octets of a crawler's name only, or none.
-pub fn all_token(s: &[u8]) -> bool
+fn all_token(s: &[u8]) -> bool
     ensures { λ r. ⌜ r ≡ all token (now (s .entry)) ⌝ }
 {
     let mut i = 0;

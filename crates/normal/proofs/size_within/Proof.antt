@@ -1,4 +1,4 @@
--- `normal::size_within` meets its contract: the octets counted and those of what is left are the whole's. Assumes nothing.
+-- `normal::size_within` meets its contract: the octets measured and those of what is left are the whole's. Assumes nothing.
 use Prim.Native.Nat.{_+_, _-_, _≤_}
 use mathlib.Core.Path.{_≡_, ap}
 use native.Mathlib.Omega.{arith}
