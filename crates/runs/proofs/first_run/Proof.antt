@@ -29,25 +29,25 @@ returns-2 c =
     ∙ sym (ap (λ (b : Bool). first b (a .run .now) (a .path .now)) (c .before .before .if2 .taken) ∙ first-out (a .run .now) (a .path .now) (λ e. omega arith))
 
 -- past the tests the run is tried
-whole : (c : tie.Joined2)
-    → let a = c .before .before .before .before .args in
-    first (a .last) (a .run .now) (a .path .now) ≡ placed (length (a .run .now)) 0 (tried (a .run .now) (a .path .now) 0)
-whole c =
-    let a = c .before .before .before .before .args in
-    first-in (a .run .now) (a .path .now) (a .last) (omega arith)
-    (⊎-elim (λ w. λ _. w .1 .left) (λ w. λ e. absurd (true≢false (sym e ∙ w .left))) (c .if2 .came))
+module _ (c : tie.Joined2) where
+  abbrev entry : tie.Start
+  entry = c .before .before .before .before
+
+  whole : first (entry .args .last) (entry .args .run .now) (entry .args .path .now) ≡ placed (length (entry .args .run .now)) 0 (tried (entry .args .run .now) (entry .args .path .now) 0)
+  whole =
+      first-in (entry .args .run .now) (entry .args .path .now) (entry .args .last) (omega arith)
+      (⊎-elim (λ w. λ _. w .1 .left) (λ w. λ e. absurd (true≢false (sym e ∙ w .left))) (c .if2 .came))
 
 try-run-requires : tie.Need-try-run-requires
-try-run-requires c κs =
-    let a = c .before .before .before .before .args in (omega arith, omega (arith, tried-most (a .run .now) (a .path .now) 0))
+try-run-requires c κs = (omega arith, omega (arith, tried-most (entry c .args .run .now) (entry c .args .path .now) 0))
 
 place-run-requires : tie.Need-place-run-requires
 place-run-requires c κs = search needs
 
 returns-3 : tie.Need-returns-3
 returns-3 c =
-    let a = c .before .before .before .before .before .before .args in
-    c .place-run .ensures ∙ ap (placed (length (a .run .now)) 0) (c .before .try-run .ensures) ∙ sym (whole (c .before .before))
+    let t = c .before .before in
+    c .place-run .ensures ∙ ap (placed (length (entry t .args .run .now)) 0) (c .before .try-run .ensures) ∙ sym (whole t)
 
 pub first-run-spec : {M : Type 1} → statement M
 first-run-spec =

@@ -18,20 +18,23 @@ abbrev μ-loop : tie.MeasureT-loop
 loop-holds : tie.Need-loop-holds Inv-loop μ-loop
 loop-holds c = (omega arith, refl)
 
+abbrev entry : tie.At-loop Inv-loop μ-loop → tie.Start Inv-loop μ-loop
+entry c = c .before .before
+
 shared-slice-read-compare : tie.Need-shared-slice-read-compare Inv-loop μ-loop
 shared-slice-read-compare c = omega arith
 
 compare-requires : tie.Need-compare-requires Inv-loop μ-loop
 compare-requires c κs =
     let s = c .before .before in
-    let a = s .before .before .args in
+    let a = entry s .args in
     omega (arith, firsts-counts (a .first) (a .places .now) (s .loop .i) (s .loop .count) (omega arith), ap (λ (x : Tried). x .count) (s .loop .inv .1))
 
 returns : tie.Need-returns Inv-loop μ-loop
 returns c =
     let q = c .before .compare in
     let s = c .before .before .before .before in
-    let a = s .before .before .args in
+    let a = entry s .args in
     firsts-here (a .first) (a .places .now) (s .loop .i) (s .loop .count) (omega arith) (q .result) (q .ensures) (c .if1 .taken) ∙ s .loop .inv .1
 
 add-i : tie.Need-add-i Inv-loop μ-loop
@@ -44,7 +47,7 @@ loop-again : tie.Need-loop-again Inv-loop μ-loop
 loop-again c =
     let q = c .before .compare in
     let s = c .before .before .before .before in
-    let a = s .before .before .args in (
+    let a = entry s .args in (
       omega arith,
       sym (firsts-on (a .first) (a .places .now) (s .loop .i) (s .loop .count) (omega arith) (q .result) (q .ensures) (c .if1 .left)) ∙ s .loop .inv .1,
     )
@@ -52,7 +55,7 @@ loop-again c =
 returns-2 : tie.Need-returns-2 Inv-loop μ-loop
 returns-2 c =
     let s = c .before in
-    let a = s .before .before .args in
+    let a = entry s .args in
     sym (firsts-end (a .first) (a .places .now) (s .loop .i) (s .loop .count) (omega arith)) ∙ s .loop .inv .1
 
 pub try-each-spec : {M : Type 1} → statement M

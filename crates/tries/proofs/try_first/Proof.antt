@@ -21,6 +21,9 @@ abbrev μ-loop : tie.MeasureT-loop
 loop-holds : tie.Need-loop-holds Inv-loop μ-loop
 loop-holds c = (omega arith, refl)
 
+abbrev entry : tie.At-loop Inv-loop μ-loop → tie.Start Inv-loop μ-loop
+entry c = c .before .before
+
 sub-loop : tie.Need-sub-loop Inv-loop μ-loop
 sub-loop c = omega arith
 
@@ -39,7 +42,7 @@ part-try-four-end c = omega arith
 try-four-requires : tie.Need-try-four-requires Inv-loop μ-loop
 try-four-requires c κs =
     let s = c .before .before in
-    let a = s .before .before .args in
+    let a = entry s .args in
     let i = s .loop .i in
     let d : length (drop i (a .places .now)) ≡ length (a .places .now) - i = length-drop i (a .places .now) in (
       length-take-le (i + 4 - i) (drop i (a .places .now)) (omega (arith, d)) ∙ omega arith,
@@ -50,7 +53,7 @@ returns : tie.Need-returns Inv-loop μ-loop
 returns c =
     let q = c .before .try-four in
     let s = c .before .before .before .before in
-    let a = s .before .before .args in
+    let a = entry s .args in
     let i = s .loop .i in
     firsts-within (a .first) (a .places .now) i (i + 4 - i) (s .loop .count) (q .result) (q .ensures) (c .if1 .taken) ∙ s .loop .inv .1
 
@@ -64,7 +67,7 @@ loop-again : tie.Need-loop-again Inv-loop μ-loop
 loop-again c =
     let q = c .before .try-four in
     let s = c .before .before .before .before in
-    let a = s .before .before .args in
+    let a = entry s .args in
     let i = s .loop .i in
     let k : i + (i + 4 - i) ≡ i + 4 = omega arith in (
       omega arith,
@@ -83,13 +86,13 @@ part-try-each-end c = omega arith
 try-each-requires : tie.Need-try-each-requires Inv-loop μ-loop
 try-each-requires c κs =
     let s = c .before .before in
-    let a = s .before .before .args in
-    rw (rest-of (s .loop .i) (a .places .now), s .loop .inv .1) (s .before .before .pre)
+    let a = entry s .args in
+    rw (rest-of (s .loop .i) (a .places .now), s .loop .inv .1) (entry s .pre)
 
 returns-2 : tie.Need-returns-2 Inv-loop μ-loop
 returns-2 c =
     let s = c .before .before .before in
-    let a = s .before .before .args in
+    let a = entry s .args in
     c .try-each .ensures ∙ ap (λ (l : List ℕ). triedFirst (a .first) l (s .loop .count)) (rest-of (s .loop .i) (a .places .now)) ∙ s .loop .inv .1
 
 pub try-first-spec : {M : Type 1} → statement M

@@ -21,6 +21,9 @@ abbrev μ-loop : tie.MeasureT-loop
 loop-holds : tie.Need-loop-holds Inv-loop μ-loop
 loop-holds c = (omega arith, refl)
 
+abbrev entry : tie.At-loop Inv-loop μ-loop → tie.Start Inv-loop μ-loop
+entry c = c .before .before .before
+
 shared-slice-read-compare : tie.Need-shared-slice-read-compare Inv-loop μ-loop
 shared-slice-read-compare c = omega arith
 
@@ -30,7 +33,7 @@ shared-slice-read-compare-2 c = omega arith
 compare-requires : tie.Need-compare-requires Inv-loop μ-loop
 compare-requires c κs =
     let s = c .before .before .before in
-    let a = s .before .before .before .args in
+    let a = entry s .args in
     let m = compare-counts (a .run .now) (a .rest .now) (s .loop .i) (s .loop .count) (omega arith) (omega arith) in
     omega (arith, m, ap (λ (x : Tried). x .count) (s .loop .inv .1))
 
@@ -38,7 +41,7 @@ returns : tie.Need-returns Inv-loop μ-loop
 returns c =
     let q = c .before .before in
     let s = q .before .before .before .before in
-    let a = s .before .before .before .args in
+    let a = entry s .args in
     let i = s .loop .i in
     let e : eqb (getD (a .run .now) i 0) (getD (a .rest .now) i 0) ≡ false = sym (ap (λ (x : Tried). x .stood) (q .compare .ensures)) ∙ not-true _ (c .if1 .taken) in
     q .compare .ensures
@@ -55,7 +58,7 @@ loop-again : tie.Need-loop-again Inv-loop μ-loop
 loop-again c =
     let q = c .before .before in
     let s = q .before .before .before .before in
-    let a = s .before .before .before .args in
+    let a = entry s .args in
     let i = s .loop .i in
     let e : eqb (getD (a .run .now) i 0) (getD (a .rest .now) i 0) ≡ true = sym (ap (λ (x : Tried). x .stood) (q .compare .ensures)) ∙ not-false _ (c .if1 .left) in (
       omega arith,
@@ -67,7 +70,7 @@ loop-again c =
 returns-2 : tie.Need-returns-2 Inv-loop μ-loop
 returns-2 c =
     let s = c .before in
-    let a = s .before .before .before .args in
+    let a = entry s .args in
     sym (compare-end (a .run .now) (drop (s .loop .i) (a .rest .now)) (s .loop .i) (s .loop .count) (omega arith)) ∙ s .loop .inv .1
 
 pub try-run-spec : {M : Type 1} → statement M
