@@ -50,7 +50,8 @@ same-length-2 c = search needs
 returns : tie.Need-returns
 returns c =
     let w = c .before .before in
-    w .walk-pattern .ensures .0 ∙ ap (walk (shapeOf (start (w .before) .args .pattern .now))) (lent (w .before))
+    let t = w .before in
+    w .walk-pattern .ensures .0 ∙ ap (walk (shapeOf (start t .args .pattern .now))) (lent t)
 
 pub walk-in-spec : {M : Type 1} → statement M
 walk-in-spec =

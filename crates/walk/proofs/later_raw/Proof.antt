@@ -38,7 +38,10 @@ slice-aggregate-later-run : tie.Need-slice-aggregate-later-run
 slice-aggregate-later-run c = sym (length-take-le _ _ (fits (c .before) .room))
 
 later-run-requires : tie.Need-later-run-requires
-later-run-requires c κs = let p = entry (written (c .before)) .pre in rw (fits (c .before) .read) (p .1, p .2, p .3)
+later-run-requires c κs =
+    let t = c .before in
+    let p = entry (written t) .pre in
+    rw (fits t .read) (p .1, p .2, p .3)
 
 enum-told : tie.Need-enum-told
 enum-told c = search needs
@@ -60,9 +63,10 @@ same-length-2 c = search needs
 
 returns-2 : tie.Need-returns-2
 returns-2 c =
-    let s = c .before .before .before .before .before in
+    let t = c .before in
+    let s = t .before .before .before .before in
     let a = entry s .args in
-    let l = run-outgrows (a .run .now) (a .scratch .now) (sym (s .normalise-run .ensures .0) ∙ c .before .enum-told .given .1) in
+    let l = run-outgrows (a .run .now) (a .scratch .now) (sym (s .normalise-run .ensures .0) ∙ t .enum-told .given .1) in
     (c .fail .ensures ∙ sym (next-short (normalRun (a .run .now)) (a .path .now) (a .w) (a .last) (entry s .pre .1) (omega (arith, l))), s .normalise-run .ensures .1)
 
 pub later-raw-spec : {M : Type 1} → statement M
