@@ -11,8 +11,8 @@ use Rattle.protocol.specs.Normal.{normalPath}
 use Rattle.protocol.specs.Pattern.{shapeOf, weight}
 use Rattle.protocol.specs.Refusals.{badPattern, pathRows, refusal, matchRefusal}
 use Rattle.protocol.proofs.Sizes.{weight-size}
+use Rattle.protocol.proofs.Refused.{path-numbered, refused-first, refused-later, none-refused}
 use Rattle.protocol.proofs.Limits.{not-too-long, short-known, path-room}
-use Rattle.paths.proofs.Refused.{path-numbered, refused-first, refused-later, none-refused}
 use Rattle.walk.specs.Weights.{CountFits}
 
 module _ (pattern path : List ℕ) where

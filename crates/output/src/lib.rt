@@ -3,7 +3,8 @@
 pub mod parts; // parts.rt: the lines of the input, one after the other
 mod before; // before.rt: texts and numbers, put in front of what stands behind them
 
-ghost use Rattle.protocol.specs.Program.{refusedText, answerText, textBy};
+ghost use Rattle.protocol.specs.Refusals.{unlessRefused};
+ghost use Rattle.protocol.specs.Program.{refusedText, answerText};
 ghost use Rattle.output.specs.Written.{Holds};
 use before::decimal_before;
 use before::named_before;
@@ -44,7 +45,7 @@ fn answered_line(decision: Decision) -> Line
 }
 
 pub fn answer_line(decision: Decision) -> Line
-    ensures { λ r. ⌜ Holds (textBy (decision .refusal) decision) r ⌝ }
+    ensures { λ r. ⌜ Holds (unlessRefused (decision .refusal) refusedText (answerText decision)) r ⌝ }
 {
     if decision.refusal != 0 {
         return refused_line(decision.refusal);

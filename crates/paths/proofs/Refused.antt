@@ -1,48 +1,19 @@
--- The refusals, row by row. Assumes nothing.
+-- Why a path is refused, row by row. Assumes nothing.
 use Prim.Native.Nat.{ℕ, _≤_, _<_}
 use mathlib.Core.Path.{_≡_, refl, _∙_}
 use mathlib.Core.Bool.{Bool, not}
-use mathlib.Core.List.{List, [], _∷_, _++_}
+use mathlib.Core.List.{List, [], _∷_}
 use native.Mathlib.Omega.{arith}
 use lib.Dec.{leb, eqb}
 use lib.ListN.{length, getD}
 use borrow.Author.Tests.{eq-eqb, ne-eqb, lt-ltb, le-ltb, leb-true, leb-false}
 use Rattle.lists.specs.Choice.{if_then_else_}
 use Rattle.lists.specs.Lists.{any}
-use Rattle.lists.specs.Each.{Each}
 use Rattle.lists.proofs.Bools.{split}
 use Rattle.protocol.specs.Text.{begins}
 use Rattle.protocol.specs.Normal.{normalPath}
-use Rattle.protocol.specs.Refusals.{Row, outsidePath, noRoom, pathRows, refusal, normaliseRefusal}
-
--- no number of a row is that of an answer
-abbrev pub Numbered : List Row → Type 0
-Numbered rows = Each (λ r. 0 < r .number) rows
-
-pub path-numbered : (path : List ℕ) → Numbered (pathRows path)
-path-numbered path = (omega arith, (omega arith, (omega arith, tt)))
-
--- what is refused by the first rows is refused so by all
-pub refused-first : (rows more : List Row) → (refusal rows ≡ 0 → ⊥) → refusal (rows ++ more) ≡ refusal rows
-unfolding refusal
-refused-first [] more h = absurd (h refl)
-refused-first (r ∷ rows) more h =
-    split (r .given) (λ e. rw e) (λ e. rw e (refused-first rows more (rw e at h)))
-
--- what isn't refused by the first rows is up to the others
-pub refused-later : (rows more : List Row) → Numbered rows → refusal rows ≡ 0 → refusal (rows ++ more) ≡ refusal more
-unfolding refusal
-refused-later [] more n h = refl
-refused-later (r ∷ rows) more n h =
-    split (r .given)
-    (λ e. let z : r .number ≡ 0 = rw e at h in absurd (omega (arith, n .0)))
-    (λ e. rw e (refused-later rows more (n .1) (rw e at h)))
-
--- where none of the rows refuses, none of the first ones does
-pub none-refused : (rows more : List Row) → refusal (rows ++ more) ≡ 0 → refusal rows ≡ 0
-unfolding refusal
-none-refused [] more h = refl
-none-refused (r ∷ rows) more h = split (r .given) (λ e. rw e (rw e at h)) (λ e. rw e (none-refused rows more (rw e at h)))
+use Rattle.protocol.specs.Refusals.{outsidePath, noRoom, pathRows, refusal, normaliseRefusal}
+use Rattle.protocol.proofs.Refused.{path-numbered, refused-first, refused-later, none-refused}
 
 -- a path's rows
 pub path-empty : (path : List ℕ) → length path ≡ 0 → refusal (pathRows path) ≡ 3

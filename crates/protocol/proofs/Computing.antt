@@ -11,10 +11,10 @@ use Rattle.protocol.specs.Normal.{encoded, meant, escape, isEscape, esca
 use Rattle.protocol.specs.Pattern.{rawText, shapeOf, weight, firstRun, laterRuns}
 use Rattle.protocol.specs.Walk.{tried, tryAt, seek, final, first, next, later, walkRuns, walk}
 use Rattle.protocol.specs.Starts.{laterStarts, starts}
-use Rattle.protocol.specs.Refusals.{outsidePath, refusal, decideRefusal, matchRefusal, normaliseRefusal, lineRefusal}
+use Rattle.protocol.specs.Refusals.{outsidePath, refusal, decideRefusal, matchRefusal, normaliseRefusal, lineRefusal, unlessRefused}
 use Rattle.protocol.specs.Decision.{readableRules, weightOf, walkOf, comparedBy, matching, outdoes, chosen, deciding, decidedBy, isRobotsFile, decidedAmong, answered}
-use Rattle.protocol.specs.Answers.{unlessRefused, decide, matchBy, matchOf, writtenBy, normalWritten, normaliseOf, normaliseBuffer, lineAnswerBy, lineAnswer}
-use Rattle.protocol.specs.Program.{decimalBefore, decimal, refusedText, sideText, answerText, textBy, firstPart, behind, decideInput, output}
+use Rattle.protocol.specs.Answers.{decide, matchOf, normalWritten, normaliseOf, normaliseBuffer, lineAnswer}
+use Rattle.protocol.specs.Program.{decimalBefore, decimal, refusedText, sideText, answerText, firstPart, behind, output}
 
 unfoldable pub texts : Unit {0}
 unfolding all any kept upTo from total numbersFrom same upper lower digit token unreserved hex blank lineEnd lowerCase upperCase hexValue hexDigit octets begins ends sameIgnoringCase lead unlessAtEnd trimEnd trim octetsAt
@@ -33,7 +33,7 @@ unfolding encoded meant escape isEscape escapeAt special plain replacement norma
 patterns = tt
 
 unfoldable pub answers : Unit {0}
-unfolding outsidePath refusal decideRefusal matchRefusal normaliseRefusal lineRefusal readableRules weightOf walkOf comparedBy matching outdoes chosen deciding decidedBy isRobotsFile decidedAmong answered unlessRefused decide matchBy matchOf writtenBy normalWritten normaliseOf normaliseBuffer lineAnswerBy lineAnswer decimalBefore decimal refusedText sideText answerText textBy firstPart behind decideInput output
+unfolding outsidePath refusal decideRefusal matchRefusal normaliseRefusal lineRefusal unlessRefused readableRules weightOf walkOf comparedBy matching outdoes chosen deciding decidedBy isRobotsFile decidedAmong answered decide matchOf normalWritten normaliseOf normaliseBuffer lineAnswer decimalBefore decimal refusedText sideText answerText firstPart behind output
 answers = tt
 
 -- all of them

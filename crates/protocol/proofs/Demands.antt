@@ -1,15 +1,12 @@
 -- The three demands about a decision, for every file, name and path. Assumes nothing.
-use Prim.Native.Nat.{ℕ, zero, suc, _+_, _*_, _≤_}
-use mathlib.Core.Path.{_≡_, refl, ap}
+use Prim.Native.Nat.{ℕ, _+_, _*_, _≤_}
+use mathlib.Core.Path.{_≡_, refl, sym, _∙_, ap}
 use mathlib.Core.Bool.{true, false}
 use mathlib.Core.Logic.{_↔_, _⊎_, inl, inr, ⊎-elim}
 use mathlib.Core.List.{List}
 use native.Mathlib.Omega.{arith}
-use lib.Dec.{eqb}
 use lib.ListN.{length}
-use borrow.Author.Tests.{eqb-true, eqb-false}
 use Rattle.lists.specs.Lists.{total}
-use Rattle.lists.proofs.Bools.{split}
 use Rattle.protocol.specs.declared.Side.{Side}
 use Rattle.protocol.specs.declared.Decision.{Decision}
 use Rattle.protocol.specs.Lines.{lineNumber}
@@ -20,31 +17,27 @@ use Rattle.protocol.specs.Pattern.{shapeOf}
 use Rattle.protocol.specs.Walk.{walk}
 use Rattle.protocol.specs.Refusals.{decideRows, decideRefusal}
 use Rattle.protocol.specs.Decision.{patternOf, weightOf, isRobotsFile, answered}
-use Rattle.protocol.specs.Answers.{refusedDecision, unlessRefused, decide, sideNumber}
+use Rattle.protocol.specs.Answers.{refusedDecision, decide, sideNumber}
 use Rattle.protocol.specs.Meaning.{ByTable, Closed, Shut, walkedRules, Decides, Undecided, NamesNone, Named}
 use Rattle.protocol.proofs.Inside.{entries-inside}
-use Rattle.protocol.proofs.Refused.{decideRefusal-by-table}
+use Rattle.protocol.proofs.Refused.{unless-either, unless-answered, unless-refused, decideRefusal-by-table}
 use Rattle.protocol.proofs.Answered.{answered-refusal, answered-unread, answered-compared, answered-compared-robots, answered-bound}
 use Rattle.protocol.proofs.Ascending.{entry-lines-ascend}
 use Rattle.protocol.proofs.Decided.{answered-disallow, answered-inside, answered-names-by-line, answered-line-none, answered-undecided}
 
--- for a refusal n and an answer d
-refusal-by : (n : ℕ) (d : Decision) → d .refusal ≡ 0 → unlessRefused n d .refusal ≡ n
-unfolding unlessRefused
-refusal-by zero d h = h
-refusal-by (suc n) d h = refl
-
-refused-by : (n : ℕ) (d : Decision) → (n ≡ 0 → ⊥) → unlessRefused n d ≡ refusedDecision n
-unfolding unlessRefused
-refused-by zero d h = absurd (h refl)
-refused-by (suc n) d h = refl
-
 module _ (file name path : List ℕ) where
+  -- a decision is answered from the file's own entries, or refused
+  decide-either : (P : Decision → Type 0) → (decideRefusal file name path ≡ 0 → P (answered file (entries file) name (normalPath path)))
+      → ((decideRefusal file name path ≡ 0 → ⊥) → P (refusedDecision (decideRefusal file name path))) → P (decide file name path)
+  unfolding decide
+  decide-either = unless-either (decideRefusal file name path) refusedDecision (answered file (entries file) name (normalPath path))
+
   -- Demand 1: "It refuses in the cases of document 01's table, in the order fixed there, and in no others."
   pub decide-refusal : decide file name path .refusal ≡ decideRefusal file name path
-  unfolding decide
   decide-refusal =
-      refusal-by (decideRefusal file name path) (answered file (entries file) name (normalPath path)) (answered-refusal file (entries file) name (normalPath path))
+      decide-either (λ d. d .refusal ≡ decideRefusal file name path)
+      (λ z. answered-refusal file (entries file) name (normalPath path) ∙ sym z)
+      (λ h. refl)
 
   pub decide-by-table : ByTable (decideRows file name path) (decide file name path .refusal)
   decide-by-table = rw decide-refusal (decideRefusal-by-table file name path)
@@ -52,12 +45,12 @@ module _ (file name path : List ℕ) where
   -- "A refused decision says disallow, line 0 and zero counts"
   pub decide-refused : (decideRefusal file name path ≡ 0 → ⊥) → decide file name path ≡ refusedDecision (decideRefusal file name path)
   unfolding decide
-  decide-refused h = refused-by (decideRefusal file name path) (answered file (entries file) name (normalPath path)) h
+  decide-refused h = unless-refused (decideRefusal file name path) _ _ h
 
-  -- any other is answered, from the file's own entries
+  -- any other is answered
   pub decide-answered : decideRefusal file name path ≡ 0 → decide file name path ≡ answered file (entries file) name (normalPath path)
-  unfolding decide unlessRefused
-  decide-answered e = rw e
+  unfolding decide
+  decide-answered e = unless-answered (decideRefusal file name path) _ _ e
 
 module _ (file name path : List ℕ) (unrefused : decideRefusal file name path ≡ 0) where
   -- Demand 2: "the answer is disallow exactly when the normalised path isn't /robots.txt and, among the rules that RFC 9309 as read by document
@@ -97,20 +90,18 @@ module _ (file name path : List ℕ) (unrefused : decideRefusal file name path �
 -- The octets that are named lie inside the file. Refused, none are.
 pub decide-inside : (file name path : List ℕ) → decide file name path .place .offset + decide file name path .length ≤ length file
 decide-inside file name path =
-    split (eqb (decideRefusal file name path) 0)
-    (λ e.
-    rw (decide-answered file name path (eqb-true (decideRefusal file name path) 0 e)) (answered-inside file (entries file) name (normalPath path) (entries-inside file)))
-    (λ e. rw (decide-refused file name path (eqb-false (decideRefusal file name path) 0 e)) (omega arith))
+    decide-either file name path (λ d. d .place .offset + d .length ≤ length file)
+    (λ z. answered-inside file (entries file) name (normalPath path) (entries-inside file))
+    (λ h. omega arith)
 
 -- "It must fail shut": disallow exactly where the decision is refused or the path is closed
 pub decide-shut : (file name path : List ℕ) → (decide file name path .side ≡ Side.Disallow) ↔ Shut file name path
 decide-shut file name path =
-    split (eqb (decideRefusal file name path) 0)
-    (λ e.
-    let z = eqb-true (decideRefusal file name path) 0 e in
-    let (there, back) = decide-disallow file name path z in
+    decide-either file name path (λ d. (d .side ≡ Side.Disallow) ↔ Shut file name path)
+    (λ z.
+    let (there, back) = answered-disallow file (entries file) name (normalPath path) in
     (λ h. inr (there h), λ s. ⊎-elim (λ r. absurd (r z)) back s))
-    (λ e. let r = eqb-false (decideRefusal file name path) 0 e in (λ h. inl r, λ s. rw (decide-refused file name path r)))
+    (λ r. (λ h. inl r, λ s. refl))
 
 -- as a number
 pub decide-number : (file name path : List ℕ) → (sideNumber (decide file name path .side) ≡ 1) ↔ Shut file name path
@@ -126,6 +117,6 @@ decide-number file name path =
 pub decide-bound : (file name path : List ℕ)
     → decide file name path .compared ≤ total (weightOf file) (walkedRules file name) * length (normalPath path)
 decide-bound file name path =
-    split (eqb (decideRefusal file name path) 0)
-    (λ e. rw (decide-answered file name path (eqb-true (decideRefusal file name path) 0 e)) (answered-bound file (entries file) name (normalPath path)))
-    (λ e. rw (decide-refused file name path (eqb-false (decideRefusal file name path) 0 e)) (omega arith))
+    decide-either file name path (λ d. d .compared ≤ total (weightOf file) (walkedRules file name) * length (normalPath path))
+    (λ z. answered-bound file (entries file) name (normalPath path))
+    (λ h. omega arith)

@@ -1,35 +1,28 @@
 -- What the answer to "Tell the kind of one line" says. Assumes nothing.
-use Prim.Native.Nat.{ℕ, zero, suc}
-use mathlib.Core.Path.{_≡_, refl}
+use Prim.Native.Nat.{ℕ}
+use mathlib.Core.Path.{_≡_, refl, sym}
 use mathlib.Core.List.{List}
-use Rattle.protocol.specs.declared.Kind.{Kind}
 use Rattle.protocol.specs.declared.LineAnswer.{LineAnswer}
 use Rattle.protocol.specs.Kinds.{kindOf}
-use Rattle.protocol.specs.Refusals.{lineRefusal}
-use Rattle.protocol.specs.Answers.{lineAnswerBy, lineAnswer, refusalOf}
-
--- for a refusal n and a kind k
-refusal-by : (n : ℕ) (k : Kind) → refusalOf (lineAnswerBy n k) ≡ n
-unfolding lineAnswerBy
-refusal-by zero k = refl
-refusal-by (suc n) k = refl
-
-refused-by : (n : ℕ) (k : Kind) → (n ≡ 0 → ⊥) → lineAnswerBy n k ≡ LineAnswer.Refused n
-unfolding lineAnswerBy
-refused-by zero k h = absurd (h refl)
-refused-by (suc n) k h = refl
+use Rattle.protocol.specs.Refusals.{lineRows, lineRefusal}
+use Rattle.protocol.specs.Answers.{lineAnswer, refusalOf}
+use Rattle.protocol.specs.Meaning.{ByTable}
+use Rattle.protocol.proofs.Refused.{unless-either, unless-answered, unless-refused, lineRefusal-by-table}
 
 module _ (line : List ℕ) where
   -- the number that the answer holds is the table's
   pub line-refusal : refusalOf (lineAnswer line) ≡ lineRefusal line
   unfolding lineAnswer
-  line-refusal = refusal-by (lineRefusal line) (kindOf line)
+  line-refusal = unless-either (lineRefusal line) _ _ (λ a. refusalOf a ≡ lineRefusal line) (λ z. sym z) (λ h. refl)
+
+  pub line-by-table : ByTable (lineRows line) (refusalOf (lineAnswer line))
+  line-by-table = rw line-refusal (lineRefusal-by-table line)
 
   -- "a refused line has no kind"
   pub line-refused : (lineRefusal line ≡ 0 → ⊥) → lineAnswer line ≡ LineAnswer.Refused (lineRefusal line)
   unfolding lineAnswer
-  line-refused h = refused-by (lineRefusal line) (kindOf line) h
+  line-refused h = unless-refused (lineRefusal line) _ _ h
 
   pub line-answered : lineRefusal line ≡ 0 → lineAnswer line ≡ LineAnswer.Kind (kindOf line)
-  unfolding lineAnswer lineAnswerBy
-  line-answered e = rw e
+  unfolding lineAnswer
+  line-answered e = unless-answered (lineRefusal line) _ _ e

@@ -9,21 +9,24 @@ use lib.Dec.{leb, ltb}
 use lib.ListN.{length}
 use borrow.Author.Tests.{lt-ltb, le-ltb, ltb-false, leb-true, leb-false}
 use Rattle.lists.proofs.Bools.{split}
+use Rattle.protocol.specs.declared.Decision.{Decision}
 use Rattle.protocol.specs.Octets.{is}
 use Rattle.protocol.specs.Text.{begins}
 use Rattle.protocol.specs.Normal.{normalPath}
-use Rattle.protocol.specs.Refusals.{Row, tooLong, severalLines, badName, badPattern, pathRows, refusal, decideRefusal, matchRefusal, lineRefusal}
-use Rattle.protocol.specs.Program.{refusedText, textBy, decideInput, output}
+use Rattle.protocol.specs.Refusals.{Row, tooLong, severalLines, badName, badPattern, inputTooLong, refusal, pathRows, decideRows, decideRefusal, matchRefusal, lineRefusal, unlessRefused}
+use Rattle.protocol.specs.Answers.{decide}
+use Rattle.protocol.specs.Meaning.{ByTable}
+use Rattle.protocol.specs.Program.{refusedText, answerText, nameIn, pathIn, fileIn, programRows, output}
 use Rattle.protocol.proofs.Sizes.{path-limit}
+use Rattle.protocol.proofs.Refused.{refusal-here, refusal-on, refusal-by-table}
+use Rattle.protocol.proofs.Demands.{decide-refusal}
 
 module _ (l : List ℕ) (rows : List Row) where
   pub too-long : 512_000 < length l → refusal (tooLong l ∷ rows) ≡ 1
-  unfolding refusal
-  too-long h = rw (lt-ltb 512_000 (length l) h)
+  too-long h = refusal-here (tooLong l) rows (lt-ltb 512_000 (length l) h)
 
   pub not-too-long : length l ≤ 512_000 → refusal (tooLong l ∷ rows) ≡ refusal rows
-  unfolding refusal
-  not-too-long h = rw (le-ltb 512_000 (length l) h)
+  not-too-long h = refusal-on (tooLong l) rows (le-ltb 512_000 (length l) h)
 
   pub short-known : refusal (tooLong l ∷ rows) ≡ 0 → length l ≤ 512_000
   short-known h =
@@ -44,13 +47,23 @@ line-too-long line h = too-long line (severalLines line ∷ []) h
 
 -- "the program tests 7 before all others"
 module _ (input : List ℕ) where
+  pub program-by-table : ByTable (programRows input) (refusal (programRows input))
+  program-by-table = refusal-by-table (programRows input) (omega arith)
+
   pub output-refused : 65_536 < length input → output input ≡ refusedText 7
-  unfolding output
+  unfolding output refusal unlessRefused
   output-refused h = rw (lt-ltb 65_536 (length input) h)
 
-  pub output-answered : length input ≤ 65_536 → output input ≡ textBy (decideInput input .refusal) (decideInput input)
-  unfolding output
-  output-answered h = rw (le-ltb 65_536 (length input) h)
+  -- otherwise it writes what its decision comes to
+  pub output-answered : length input ≤ 65_536 → {d : Decision} → d ≡ decide (fileIn input) (nameIn input) (pathIn input)
+      → output input ≡ unlessRefused (d .refusal) refusedText (answerText d)
+  unfolding output decideRefusal
+  output-answered h e =
+      rw (
+        e,
+        decide-refusal (fileIn input) (nameIn input) (pathIn input),
+        refusal-on (inputTooLong input) (decideRows (fileIn input) (nameIn input) (pathIn input)) (le-ltb 65_536 (length input) h),
+      )
 
 -- the beginning and the length of a path that no row of its own refuses
 pub path-known : (path : List ℕ) → refusal (pathRows path) ≡ 0 → (begins "/" path ≡ true) × (length path ≤ 2_048)

@@ -1,31 +1,21 @@
 -- What the answer to "Match one pattern against one path" says. Assumes nothing.
-use Prim.Native.Nat.{ℕ, zero, suc, _*_, _≤_}
+use Prim.Native.Nat.{ℕ, _*_, _≤_}
 use mathlib.Core.Path.{_≡_, refl, ap}
 use mathlib.Core.Bool.{Bool, true, false}
 use mathlib.Core.Logic.{_↔_}
 use mathlib.Core.List.{List}
 use native.Mathlib.Omega.{arith}
 use lib.ListN.{length}
-use Rattle.protocol.specs.declared.Walked.{Walked}
+use Rattle.protocol.specs.declared.Matched.{Matched}
 use Rattle.protocol.specs.Normal.{normalPath}
 use Rattle.protocol.specs.Pattern.{shapeOf, weight}
 use Rattle.protocol.specs.Matching.{Matches}
 use Rattle.protocol.specs.Walk.{walk}
 use Rattle.protocol.specs.Refusals.{matchRefusal}
-use Rattle.protocol.specs.Answers.{matchBy, matchOf, foundNumber}
+use Rattle.protocol.specs.Answers.{refusedMatch, matchedBy, matchOf, foundNumber}
+use Rattle.protocol.proofs.Refused.{unless-either, unless-answered, unless-refused}
 use Rattle.protocol.proofs.Counted.{walk-bound}
 use Rattle.protocol.proofs.Found.{walk-finds}
-
--- for a refusal n and a walk w
-refused-by : (n : ℕ) (w : Walked) → (n ≡ 0 → ⊥) → matchBy n w ≡ record { refusal = n; found = false; compared = 0 }
-unfolding matchBy
-refused-by zero w h = absurd (h refl)
-refused-by (suc n) w h = refl
-
-compared-by : (n : ℕ) (w : Walked) → matchBy n w .compared ≤ w .count
-unfolding matchBy
-compared-by zero w = omega arith
-compared-by (suc n) w = omega arith
 
 number-one : (b : Bool) → foundNumber b ≡ 1 → b ≡ true
 number-one true h = refl
@@ -34,16 +24,14 @@ number-one false h = absurd (omega arith)
 module _ (pattern path : List ℕ) where
   -- "A refused match is "no" with count 0"
   pub match-refused : (matchRefusal pattern path ≡ 0 → ⊥)
-      → matchOf pattern path ≡ record { refusal = matchRefusal pattern path; found = false; compared = 0 }
+      → matchOf pattern path ≡ refusedMatch (matchRefusal pattern path)
   unfolding matchOf
-  match-refused h = refused-by (matchRefusal pattern path) (walk (shapeOf pattern) (normalPath path)) h
+  match-refused h = unless-refused (matchRefusal pattern path) _ _ h
 
   -- "yes or no, with the count of that walk"
-  pub match-answered : matchRefusal pattern path ≡ 0
-      → matchOf pattern path
-      ≡ record { refusal = 0; found = walk (shapeOf pattern) (normalPath path) .stood; compared = walk (shapeOf pattern) (normalPath path) .count }
-  unfolding matchOf matchBy
-  match-answered e = rw e
+  pub match-answered : matchRefusal pattern path ≡ 0 → matchOf pattern path ≡ matchedBy (walk (shapeOf pattern) (normalPath path))
+  unfolding matchOf
+  match-answered e = unless-answered (matchRefusal pattern path) _ _ e
 
   -- yes exactly when the pattern matches the normalised path
   pub match-found : matchRefusal pattern path ≡ 0 → (matchOf pattern path .found ≡ true) ↔ Matches (shapeOf pattern) (normalPath path)
@@ -59,5 +47,6 @@ module _ (pattern path : List ℕ) where
   pub match-bound : matchOf pattern path .compared ≤ weight (shapeOf pattern) * length (normalPath path)
   unfolding matchOf
   match-bound =
-      let w : Walked = walk (shapeOf pattern) (normalPath path) in
-      omega (arith, compared-by (matchRefusal pattern path) w, walk-bound (shapeOf pattern) (normalPath path))
+      unless-either (matchRefusal pattern path) _ _ (λ (m : Matched). m .compared ≤ weight (shapeOf pattern) * length (normalPath path))
+      (λ z. walk-bound (shapeOf pattern) (normalPath path))
+      (λ h. omega arith)

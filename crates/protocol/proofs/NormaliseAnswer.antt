@@ -1,22 +1,17 @@
 -- What the answer to "Normalise a path into a lent buffer" says, and what the buffer then holds. Assumes nothing.
-use Prim.Native.Nat.{ℕ, zero, suc}
-use mathlib.Core.Path.{_≡_, refl}
+use Prim.Native.Nat.{ℕ}
+use mathlib.Core.Path.{_≡_}
 use mathlib.Core.List.{List, []}
 use lib.ListN.{length}
 use Rattle.protocol.specs.Normal.{normalPath}
 use Rattle.protocol.specs.Refusals.{normaliseRefusal}
-use Rattle.protocol.specs.Answers.{writtenBy, normalWritten, normaliseOf, atFront, normaliseBuffer}
-
--- for a refusal n
-refused-by : (n : ℕ) (out : List ℕ) → (n ≡ 0 → ⊥) → writtenBy n out ≡ []
-unfolding writtenBy
-refused-by zero out h = absurd (h refl)
-refused-by (suc n) out h = refl
+use Rattle.protocol.specs.Answers.{normalWritten, normaliseOf, atFront, normaliseBuffer}
+use Rattle.protocol.proofs.Refused.{unless-answered, unless-refused}
 
 module _ (path buffer : List ℕ) (refused : normaliseRefusal (length buffer) path ≡ 0 → ⊥) where
   written-none : normalWritten path buffer ≡ []
   unfolding normalWritten
-  written-none = refused-by (normaliseRefusal (length buffer) path) (normalPath path) refused
+  written-none = unless-refused (normaliseRefusal (length buffer) path) _ _ refused
 
   -- "a refused normalising writes nothing and reports 0"
   pub normalise-refused : normaliseOf path buffer ≡ record { refusal = normaliseRefusal (length buffer) path; written = 0 }
@@ -30,8 +25,8 @@ module _ (path buffer : List ℕ) (refused : normaliseRefusal (length buffer) pa
 
 module _ (path buffer : List ℕ) (unrefused : normaliseRefusal (length buffer) path ≡ 0) where
   written-all : normalWritten path buffer ≡ normalPath path
-  unfolding normalWritten writtenBy
-  written-all = rw unrefused
+  unfolding normalWritten
+  written-all = unless-answered (normaliseRefusal (length buffer) path) _ _ unrefused
 
   -- "octets written"
   pub normalise-answered : normaliseOf path buffer ≡ record { refusal = 0; written = length (normalPath path) }

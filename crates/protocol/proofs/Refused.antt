@@ -1,17 +1,104 @@
--- Each question refuses exactly in the table's cases, the smallest number first. Assumes nothing.
-use Prim.Native.Nat.{ℕ, _≤_, _<_}
-use mathlib.Core.Path.{_≡_, refl, sym, _∙_}
-use mathlib.Core.Bool.{true, false, true≢false, and-false}
-use mathlib.Core.Logic.{_⊎_, inl, inr}
+-- Each question refuses exactly in the table's cases, the smallest number first; and what a refusal makes of an answer. Assumes nothing.
+use Prim.Native.Nat.{ℕ, zero, suc, _≤_, _<_}
+use mathlib.Core.Path.{_≡_, refl, sym, _∙_, ap, ap₂, subst}
+use mathlib.Core.Bool.{Bool, true, false, true≢false}
 use mathlib.Core.List.{List, [], _∷_, _++_, map}
 use native.Mathlib.Omega.{arith}
-use lib.Dec.{eqb, ltb}
+use lib.Dec.{ltb}
 use borrow.Author.Tests.{eq-eqb, ne-eqb, ltb-true, ltb-false}
 use Rattle.lists.specs.Ascending.{Ascending}
+use Rattle.lists.specs.Each.{Each}
 use Rattle.lists.specs.Lists.{any}
 use Rattle.lists.proofs.Bools.{split}
-use Rattle.protocol.specs.Refusals.{Row, tooLong, pathRows, badPattern, noRoom, severalLines, refusal, decideRows, decideRefusal, matchRefusal, normaliseRefusal, lineRefusal}
-use Rattle.protocol.specs.Meaning.{isGiven, FirstGiven, NoneGiven, ByTable}
+use Rattle.protocol.specs.Refusals.{Row, _when_, refusal, pathRows, decideRows, matchRows, normaliseRows, lineRows, decideRefusal, matchRefusal, normaliseRefusal, lineRefusal, unlessRefused}
+use Rattle.protocol.specs.Meaning.{NoneGiven, FirstGiven, ByTable, isGiven, SmallestGiven, SmallestFirst}
+
+-- whatever is answered, or refused with n: by cases, and in each of them
+pub unless-either : {A : Type 0} (n : ℕ) (refused : ℕ → A) (answer : A) (P : A → Type 0) → (n ≡ 0 → P answer) → ((n ≡ 0 → ⊥) → P (refused n))
+    → P (unlessRefused n refused answer)
+unfolding unlessRefused
+unless-either zero refused answer P f g = f refl
+unless-either (suc n) refused answer P f g = g (λ e. omega arith)
+
+module _ {A : Type 0} (n : ℕ) (refused : ℕ → A) (answer : A) where
+  pub unless-answered : n ≡ 0 → unlessRefused n refused answer ≡ answer
+  unless-answered e = unless-either n refused answer (λ a. a ≡ answer) (λ z. refl) (λ h. absurd (h e))
+
+  pub unless-refused : (n ≡ 0 → ⊥) → unlessRefused n refused answer ≡ refused n
+  unless-refused h = unless-either n refused answer (λ a. a ≡ refused n) (λ z. absurd (h z)) (λ h. refl)
+
+-- no number of a row is that of an answer
+abbrev pub Numbered : List Row → Type 0
+Numbered rows = Each (λ r. 0 < r .number) rows
+
+pub path-numbered : (path : List ℕ) → Numbered (pathRows path)
+path-numbered path = omega arith
+
+module _ (r : Row) (rows : List Row) where
+  pub refusal-here : r .given ≡ true → refusal (r ∷ rows) ≡ r .number
+  unfolding refusal
+  refusal-here e = rw e
+
+  pub refusal-on : r .given ≡ false → refusal (r ∷ rows) ≡ refusal rows
+  unfolding refusal
+  refusal-on e = rw e
+
+-- rows that aren't given leave the refusal to those behind them
+refusal-behind : (rows more : List Row) → NoneGiven rows → refusal (rows ++ more) ≡ refusal more
+refusal-behind [] more h = refl
+refusal-behind (r ∷ rows) more h = refusal-on r (rows ++ more) (h .0) ∙ refusal-behind rows more (h .1)
+
+none-refuses : (rows : List Row) → NoneGiven rows → refusal rows ≡ 0
+unfolding refusal
+none-refuses [] h = refl
+none-refuses (r ∷ rows) h = refusal-on r rows (h .0) ∙ none-refuses rows (h .1)
+
+none-given : (rows : List Row) → Numbered rows → refusal rows ≡ 0 → NoneGiven rows
+none-given [] n h = tt
+none-given (r ∷ rows) n h =
+    split (r .given) (λ e. absurd (omega (arith, n .0, refusal-here r rows e, h)))
+    (λ e. (e, none-given rows (n .1) (sym (refusal-on r rows e) ∙ h)))
+
+first-given : (rows : List Row) → (refusal rows ≡ 0 → ⊥) → FirstGiven (refusal rows) rows
+unfolding refusal
+first-given [] h = absurd (h refl)
+first-given (r ∷ rows) h =
+    split (r .given)
+    (λ e. record { front = []; back = rows; whole = ap₂ (λ (n : ℕ) (b : Bool). (n when b) ∷ rows) (sym (refusal-here r rows e)) e; ahead = tt })
+    (λ e.
+    let f = first-given rows (λ z. h (refusal-on r rows e ∙ z)) in
+    rw (refusal-on r rows e)
+    (record { front = r ∷ f .front; back = f .back; whole = ap (λ (l : List Row). r ∷ l) (f .whole); ahead = (e, f .ahead) }))
+
+first-refuses : (rows : List Row) (k : ℕ) → FirstGiven k rows → refusal rows ≡ k
+unfolding refusal
+first-refuses rows k f = ap refusal (f .whole) ∙ refusal-behind (f .front) ((k when true) ∷ f .back) (f .ahead)
+
+-- Rows refuse as the table says: each number exactly when a row of it is given and none in front of that, and none exactly when no row is
+-- given.
+pub refusal-by-table : (rows : List Row) → Numbered rows → ByTable rows (refusal rows)
+refusal-by-table rows n =
+    record {
+      refused = λ k h. (λ e. rw e at (first-given rows (λ z. h (sym e ∙ z))), first-refuses rows k);
+      answered = (none-given rows n, none-refuses rows);
+    }
+
+-- what is refused by the first rows is refused so by all
+pub refused-first : (rows more : List Row) → (refusal rows ≡ 0 → ⊥) → refusal (rows ++ more) ≡ refusal rows
+unfolding refusal
+refused-first [] more h = absurd (h refl)
+refused-first (r ∷ rows) more h =
+    split (r .given) (λ e. rw e) (λ e. rw e (refused-first rows more (rw e at h)))
+
+-- what isn't refused by the first rows is up to the others
+pub refused-later : (rows more : List Row) → Numbered rows → refusal rows ≡ 0 → refusal (rows ++ more) ≡ refusal more
+refused-later rows more n h = refusal-behind rows more (none-given rows n h)
+
+-- where none of the rows refuses, none of the first ones does
+pub none-refused : (rows more : List Row) → refusal (rows ++ more) ≡ 0 → refusal rows ≡ 0
+unfolding refusal
+none-refused [] more h = refl
+none-refused (r ∷ rows) more h = split (r .given) (λ e. rw e (rw e at h)) (λ e. rw e (none-refused rows more (rw e at h)))
 
 -- the numbers of rows
 abbrev pub numbers : List Row → List ℕ
@@ -22,97 +109,71 @@ later-rows : (rows : List Row) (j k : ℕ) → j ≤ k → Ascending k (numbers 
 unfolding isGiven any
 later-rows [] j k h a = refl
 later-rows (r ∷ rows) j k h a =
-    rw (ne-eqb (r .number) j (λ e. omega arith)) (later-rows rows j (r .number) (omega arith) (a .1))
-
-module _ (r : Row) (rows : List Row) where
-  refusal-here : r .given ≡ true → refusal (r ∷ rows) ≡ r .number
-  unfolding refusal
-  refusal-here e = rw e
-
-  refusal-on : r .given ≡ false → refusal (r ∷ rows) ≡ refusal rows
-  unfolding refusal
-  refusal-on e = rw e
-
-  given-here : r .given ≡ true → isGiven (r .number) (r ∷ rows) ≡ true
-  unfolding isGiven any
-  given-here e = rw (eq-eqb (r .number) (r .number) refl, e)
-
-  given-other : (j : ℕ) → (r .number ≡ j → ⊥) → isGiven j (r ∷ rows) ≡ isGiven j rows
-  unfolding isGiven any
-  given-other j h = rw (ne-eqb (r .number) j h)
-
-  given-on : (j : ℕ) → r .given ≡ false → isGiven j (r ∷ rows) ≡ isGiven j rows
-  unfolding isGiven any
-  given-on j e = rw (e, and-false (eqb (r .number) j))
-
--- n is 0 and no condition holds, or n is greater than k and the first number whose condition holds
-Outcome : ℕ → List Row → ℕ → Type 0
-Outcome k rows n = ((n ≡ 0) × NoneGiven rows) ⊎ ((k < n) × FirstGiven n rows)
-
--- a row in front whose condition doesn't hold
-outcome-on : (r : Row) (rows : List Row) (k n : ℕ) → r .given ≡ false → k < r .number → Outcome (r .number) rows n → Outcome k (r ∷ rows) n
-unfolding Outcome
-outcome-on r rows k n e l (inl (z, h)) = inl (z, λ j. given-on r rows j e ∙ h j)
-outcome-on r rows k n e l (inr (m, (g, h))) = inr (omega arith, (given-on r rows n e ∙ g, λ j p. given-on r rows j e ∙ h j p))
-
-outcome : (rows : List Row) (k : ℕ) → Ascending k (numbers rows) → Outcome k rows (refusal rows)
-unfolding Outcome isGiven any refusal
-outcome [] k a = inl (refl, λ j. refl)
-outcome (r ∷ rows) k a =
     split (r .given)
-    (λ e.
-    rw (refusal-here r rows e)
-    (inr (
-      a .0,
-      (given-here r rows e, λ j h. given-other r rows j (λ p. omega arith) ∙ later-rows rows j (r .number) (omega arith) (a .1)),
-    )))
-    (λ e. rw (refusal-on r rows e) (outcome-on r rows k (refusal rows) e (a .0) (outcome rows (r .number) (a .1))))
+    (λ e. rw (e, ne-eqb (r .number) j (λ p. omega arith)) (later-rows rows j (r .number) (omega arith) (a .1)))
+    (λ e. rw e (later-rows rows j (r .number) (omega arith) (a .1)))
 
--- an outcome is what the table says
-by-table : (rows : List Row) (n : ℕ) → Outcome 0 rows n → ByTable rows n
-unfolding Outcome
-by-table rows n o = record { refused = λ k h. (there k h o, back k o); answered = (none-of o, zero-of o) }
-  where
-    there : (k : ℕ) → (k ≡ 0 → ⊥) → Outcome 0 rows n → n ≡ k → FirstGiven k rows
-    there k h (inl (z, f)) e = absurd (h (sym e ∙ z))
-    there k h (inr (l, f)) e = rw e at f
+-- a row that is given, in front of rows of greater numbers
+module _ (r : Row) (rows : List Row) (e : r .given ≡ true) (a : Ascending (r .number) (numbers rows)) where
+  smallest-here : isGiven (r .number) (r ∷ rows) ≡ true
+  unfolding isGiven any
+  smallest-here = rw (e, eq-eqb (r .number) (r .number) refl)
 
-    back : (k : ℕ) → Outcome 0 rows n → FirstGiven k rows → n ≡ k
-    back k (inl (z, h)) f = absurd (true≢false (sym (f .0) ∙ h k))
-    back k (inr (l, g)) f =
-        split (ltb n k)
-        (λ e. absurd (true≢false (sym (g .0) ∙ f .1 n (ltb-true n k e))))
-        (λ e.
-        split (ltb k n)
-        (λ p. absurd (true≢false (sym (f .0) ∙ g .1 k (ltb-true k n p))))
-        (λ p. omega (arith, ltb-false n k e, ltb-false k n p)))
+  none-smaller : (j : ℕ) → j < r .number → isGiven j (r ∷ rows) ≡ false
+  unfolding isGiven any
+  none-smaller j h = rw (e, ne-eqb (r .number) j (λ p. omega arith)) (later-rows rows j (r .number) (omega arith) a)
 
-    none-of : Outcome 0 rows n → n ≡ 0 → NoneGiven rows
-    none-of (inl (z, h)) e = h
-    none-of (inr (l, f)) e = absurd (omega arith)
+  smallest : SmallestFirst (r ∷ rows) (r .number)
+  smallest k h = (
+    λ p. subst (λ (n : ℕ). SmallestGiven n (r ∷ rows)) p (smallest-here, none-smaller),
+    λ (g, f).
+        split (ltb k (r .number)) (λ l. absurd (true≢false (sym g ∙ none-smaller k (ltb-true k (r .number) l))))
+        (λ l.
+        split (ltb (r .number) k) (λ m. absurd (true≢false (sym smallest-here ∙ f (r .number) (ltb-true (r .number) k m))))
+        (λ m. omega (arith, ltb-false k (r .number) l, ltb-false (r .number) k m))),
+  )
 
-    zero-of : Outcome 0 rows n → NoneGiven rows → n ≡ 0
-    zero-of (inl (z, h)) e = z
-    zero-of (inr (l, f)) e = absurd (true≢false (sym (f .0) ∙ e n))
-
--- Rows whose numbers ascend from 1 on refuse as the table says: each number exactly when its condition holds and that of no smaller one does,
--- and none exactly when no condition holds.
-pub refusal-by-table : (rows : List Row) → Ascending 0 (numbers rows) → ByTable rows (refusal rows)
-refusal-by-table rows a = by-table rows (refusal rows) (outcome rows 0 a)
+-- Rows whose numbers ascend: "the smallest number first"
+pub smallest-first : (rows : List Row) (b : ℕ) → Ascending b (numbers rows) → SmallestFirst rows (refusal rows)
+unfolding refusal isGiven any
+smallest-first [] b a = λ k h. (λ e. absurd (h (sym e)), λ f. absurd (true≢false (sym (f .0))))
+smallest-first (r ∷ rows) b a =
+    split (r .given) (λ e. rw (refusal-here r rows e) (smallest r rows e (a .1)))
+    (λ e. rw e (smallest-first rows (r .number) (a .1)))
 
 -- the four questions
-pub decideRefusal-by-table : (file name path : List ℕ) → ByTable (decideRows file name path) (decideRefusal file name path)
-unfolding decideRefusal
-decideRefusal-by-table file name path = refusal-by-table (decideRows file name path) (omega arith)
+module _ (file name path : List ℕ) where
+  pub decideRefusal-by-table : ByTable (decideRows file name path) (decideRefusal file name path)
+  unfolding decideRefusal
+  decideRefusal-by-table = refusal-by-table (decideRows file name path) (omega arith)
 
-pub matchRefusal-by-table : (pattern path : List ℕ) → ByTable (tooLong pattern ∷ pathRows path ++ (badPattern pattern ∷ [])) (matchRefusal pattern path)
-unfolding matchRefusal
-matchRefusal-by-table pattern path = refusal-by-table (tooLong pattern ∷ pathRows path ++ (badPattern pattern ∷ [])) (omega arith)
+  pub decide-smallest-first : SmallestFirst (decideRows file name path) (decideRefusal file name path)
+  unfolding decideRefusal
+  decide-smallest-first = smallest-first (decideRows file name path) 0 (omega arith)
 
-pub normaliseRefusal-by-table : (room : ℕ) (path : List ℕ) → ByTable (pathRows path ++ (noRoom room path ∷ [])) (normaliseRefusal room path)
-unfolding normaliseRefusal
-normaliseRefusal-by-table room path = refusal-by-table (pathRows path ++ (noRoom room path ∷ [])) (omega arith)
+module _ (pattern path : List ℕ) where
+  pub matchRefusal-by-table : ByTable (matchRows pattern path) (matchRefusal pattern path)
+  unfolding matchRefusal
+  matchRefusal-by-table = refusal-by-table (matchRows pattern path) (omega arith)
 
-pub lineRefusal-by-table : (line : List ℕ) → ByTable (tooLong line ∷ severalLines line ∷ []) (lineRefusal line)
-unfolding lineRefusal
-lineRefusal-by-table line = refusal-by-table (tooLong line ∷ severalLines line ∷ []) (omega arith)
+  pub match-smallest-first : SmallestFirst (matchRows pattern path) (matchRefusal pattern path)
+  unfolding matchRefusal
+  match-smallest-first = smallest-first (matchRows pattern path) 0 (omega arith)
+
+module _ (room : ℕ) (path : List ℕ) where
+  pub normaliseRefusal-by-table : ByTable (normaliseRows room path) (normaliseRefusal room path)
+  unfolding normaliseRefusal
+  normaliseRefusal-by-table = refusal-by-table (normaliseRows room path) (omega arith)
+
+  pub normalise-smallest-first : SmallestFirst (normaliseRows room path) (normaliseRefusal room path)
+  unfolding normaliseRefusal
+  normalise-smallest-first = smallest-first (normaliseRows room path) 0 (omega arith)
+
+module _ (line : List ℕ) where
+  pub lineRefusal-by-table : ByTable (lineRows line) (lineRefusal line)
+  unfolding lineRefusal
+  lineRefusal-by-table = refusal-by-table (lineRows line) (omega arith)
+
+  pub line-smallest-first : SmallestFirst (lineRows line) (lineRefusal line)
+  unfolding lineRefusal
+  line-smallest-first = smallest-first (lineRows line) 0 (omega arith)

@@ -1,5 +1,5 @@
 -- "What a caller may ask": the answer to each question, for every input, with its refused form. Assumes nothing.
-use Prim.Native.Nat.{ℕ, zero, suc}
+use Prim.Native.Nat.{ℕ}
 use mathlib.Core.Bool.{Bool, true, false}
 use mathlib.Core.List.{List, [], _++_}
 use lib.ListN.{length, drop}
@@ -19,7 +19,7 @@ use Rattle.protocol.specs.Entries.{entries}
 use Rattle.protocol.specs.Normal.{normalPath}
 use Rattle.protocol.specs.Pattern.{shapeOf}
 use Rattle.protocol.specs.Walk.{walk}
-use Rattle.protocol.specs.Refusals.{decideRefusal, matchRefusal, normaliseRefusal, lineRefusal}
+use Rattle.protocol.specs.Refusals.{decideRefusal, matchRefusal, normaliseRefusal, lineRefusal, unlessRefused}
 use Rattle.protocol.specs.Decision.{answered}
 
 -- "A refused decision holds its number, disallow, and zeros"
@@ -36,26 +36,27 @@ refusedDecision n =
     }
 
 -- "Decide: file, name, path"
-unfoldable pub unlessRefused : ℕ → Decision → Decision
-unlessRefused zero d = d
-unlessRefused (suc n) d = refusedDecision (suc n)
-
 unfoldable pub decide : List ℕ → List ℕ → List ℕ → Decision
 decide file name path =
-    unlessRefused (decideRefusal file name path) (answered file (entries file) name (normalPath path))
+    unlessRefused (decideRefusal file name path) refusedDecision (answered file (entries file) name (normalPath path))
 
 -- "allow or disallow (0 or 1 where a number is wanted)"
 abbrev pub sideNumber : Side → ℕ
 sideNumber Side.Allow = 0
 sideNumber Side.Disallow = 1
 
--- "Match one pattern against one path: yes or no, with the count of that walk." "A refused match is "no" with count 0"
-unfoldable pub matchBy : ℕ → Walked → Matched
-matchBy zero w = record { refusal = 0; found = w .stood; compared = w .count }
-matchBy (suc n) w = record { refusal = suc n; found = false; compared = 0 }
+-- "A refused match is "no" with count 0"
+abbrev pub refusedMatch : ℕ → Matched
+refusedMatch n = record { refusal = n; found = false; compared = 0 }
 
+-- "yes or no, with the count of that walk"
+abbrev pub matchedBy : Walked → Matched
+matchedBy w = record { refusal = 0; found = w .stood; compared = w .count }
+
+-- "Match one pattern against one path"
 unfoldable pub matchOf : List ℕ → List ℕ → Matched
-matchOf pattern path = matchBy (matchRefusal pattern path) (walk (shapeOf pattern) (normalPath path))
+matchOf pattern path =
+    unlessRefused (matchRefusal pattern path) refusedMatch (matchedBy (walk (shapeOf pattern) (normalPath path)))
 
 -- "yes or no" where a number is wanted
 abbrev pub foundNumber : Bool → ℕ
@@ -63,12 +64,8 @@ foundNumber true = 1
 foundNumber false = 0
 
 -- "Normalise a path into a lent buffer": what is written into its front. "a refused normalising writes nothing and reports 0"
-unfoldable pub writtenBy : ℕ → List ℕ → List ℕ
-writtenBy zero out = out
-writtenBy (suc n) out = []
-
 unfoldable pub normalWritten : List ℕ → List ℕ → List ℕ
-normalWritten path buffer = writtenBy (normaliseRefusal (length buffer) path) (normalPath path)
+normalWritten path buffer = unlessRefused (normaliseRefusal (length buffer) path) (λ n. []) (normalPath path)
 
 -- "octets written"
 unfoldable pub normaliseOf : List ℕ → List ℕ → Normalised
@@ -83,12 +80,8 @@ unfoldable pub normaliseBuffer : List ℕ → List ℕ → List ℕ
 normaliseBuffer path buffer = atFront (normalWritten path buffer) buffer
 
 -- "Tell the kind of one line": "a refused line has no kind, place 0 and length 0"
-unfoldable pub lineAnswerBy : ℕ → Kind → LineAnswer
-lineAnswerBy zero k = LineAnswer.Kind k
-lineAnswerBy (suc n) k = LineAnswer.Refused (suc n)
-
 unfoldable pub lineAnswer : List ℕ → LineAnswer
-lineAnswer line = lineAnswerBy (lineRefusal line) (kindOf line)
+lineAnswer line = unlessRefused (lineRefusal line) LineAnswer.Refused (LineAnswer.Kind (kindOf line))
 
 -- the numbers of that answer
 abbrev pub refusalOf : LineAnswer → ℕ

@@ -7,6 +7,7 @@ use mathlib.Core.Logic.{_↔_, _⊎_}
 use mathlib.Core.List.{List, _∷_, _++_, map, List·Memᴰ}
 use lib.Dec.{eqb}
 use Rattle.lists.specs.Lists.{any}
+use Rattle.lists.specs.Each.{Each}
 use Rattle.protocol.specs.declared.Side.{Side}
 use Rattle.protocol.specs.declared.Decision.{Decision}
 use Rattle.protocol.specs.Lines.{lineNumber, placeAt}
@@ -16,25 +17,36 @@ use Rattle.protocol.specs.Rules.{Rule, valueOf, applying}
 use Rattle.protocol.specs.Normal.{normalPath}
 use Rattle.protocol.specs.Pattern.{shapeOf}
 use Rattle.protocol.specs.Matching.{Matches}
-use Rattle.protocol.specs.Refusals.{Row, decideRefusal}
+use Rattle.protocol.specs.Refusals.{Row, _when_, decideRefusal}
 use Rattle.protocol.specs.Decision.{patternOf, readableRules, weightOf, isRobotsFile}
 
--- the condition of number k holds
-unfoldable pub isGiven : ℕ → List Row → Bool
-isGiven k rows = any (λ r. eqb (r .number) k && r .given) rows
-
--- "the smallest number first": the condition of number k holds, and that of no smaller number
-abbrev pub FirstGiven : ℕ → List Row → Type 0
-FirstGiven k rows = (isGiven k rows ≡ true) × ((j : ℕ) → j < k → isGiven j rows ≡ false)
-
--- "0 answered": no condition holds
+-- "0 answered": no row is given
 abbrev pub NoneGiven : List Row → Type 0
-NoneGiven rows = (j : ℕ) → isGiven j rows ≡ false
+NoneGiven rows = Each (λ r. r .given ≡ false) rows
 
--- "Given exactly when": n is the number of the first condition that holds, and 0 exactly when none does
+-- a row of number k is given, and none in front of it
+pub record FirstGiven (k : ℕ) (rows : List Row) : Type 0 where
+  pub front : List Row
+  pub back : List Row
+  pub whole : rows ≡ front ++ ((k when true) ∷ back)
+  pub ahead : NoneGiven front
+
+-- "Given exactly when": n is the number of the first row that is given, and 0 exactly when none is
 pub record ByTable (rows : List Row) (n : ℕ) : Type 0 where
   pub refused : (k : ℕ) → (k ≡ 0 → ⊥) → (n ≡ k) ↔ FirstGiven k rows
   pub answered : (n ≡ 0) ↔ NoneGiven rows
+
+-- the condition of number k holds
+unfoldable pub isGiven : ℕ → List Row → Bool
+isGiven k rows = any (λ r. r .given && eqb (r .number) k) rows
+
+-- the condition of number k holds, and that of no smaller number
+abbrev pub SmallestGiven : ℕ → List Row → Type 0
+SmallestGiven k rows = (isGiven k rows ≡ true) × ((j : ℕ) → j < k → isGiven j rows ≡ false)
+
+-- "the smallest number first": a refusal n is the smallest number whose condition holds
+abbrev pub SmallestFirst : List Row → ℕ → Type 0
+SmallestFirst rows n = (k : ℕ) → (k ≡ 0 → ⊥) → (n ≡ k) ↔ SmallestGiven k rows
 
 -- the group g names who: g isn't 0, which is none, and one of its agent lines has a value that does
 pub record GroupNames (file : List ℕ) (es : List Entry) (who : List ℕ) (g : ℕ) : Type 0 where

@@ -9,7 +9,7 @@ use Rattle.protocol.specs.declared.Side.{Side}
 use Rattle.protocol.specs.declared.Decision.{Decision}
 use Rattle.protocol.specs.Octets.{is}
 use Rattle.protocol.specs.Text.{octets}
-use Rattle.protocol.specs.Refusals.{inputTooLong}
+use Rattle.protocol.specs.Refusals.{Row, inputTooLong, decideRows, refusal, unlessRefused}
 use Rattle.protocol.specs.Answers.{decide}
 
 -- n in decimal, in front of l, in at most k + 1 digits
@@ -42,10 +42,6 @@ answerText d =
     ++ decimal (d .compared)
     ++ octets "\n"
 
-unfoldable pub textBy : ℕ → Decision → List ℕ
-textBy zero d = answerText d
-textBy (suc n) d = refusedText (suc n)
-
 -- "first line the name, second the path (each ended by LF), the rest the file. A part that ends with the input needs no LF; a missing
 -- part is empty": the part up to the first LF, and what is behind it
 unfoldable pub firstPart : List ℕ → List ℕ
@@ -54,11 +50,19 @@ firstPart l = upTo (is "\n") l
 unfoldable pub behind : List ℕ → List ℕ
 behind l = tail (from (is "\n") l)
 
-unfoldable pub decideInput : List ℕ → Decision
-decideInput input = decide (behind (behind input)) (firstPart input) (firstPart (behind input))
+abbrev pub nameIn : List ℕ → List ℕ
+nameIn input = firstPart input
+
+abbrev pub pathIn : List ℕ → List ℕ
+pathIn input = firstPart (behind input)
+
+abbrev pub fileIn : List ℕ → List ℕ
+fileIn input = behind (behind input)
 
 -- "the program tests 7 before all others"
+abbrev pub programRows : List ℕ → List Row
+programRows input = inputTooLong input ∷ decideRows (fileIn input) (nameIn input) (pathIn input)
+
 unfoldable pub output : List ℕ → List ℕ
 output input =
-    let d = decideInput input in
-    if inputTooLong input .given then refusedText (inputTooLong input .number) else textBy (d .refusal) d
+    unlessRefused (refusal (programRows input)) refusedText (answerText (decide (fileIn input) (nameIn input) (pathIn input)))

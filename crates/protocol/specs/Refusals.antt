@@ -1,5 +1,5 @@
 -- The table of refusals, and which of them each question tests, in which order. Assumes nothing.
-use Prim.Native.Nat.{ℕ}
+use Prim.Native.Nat.{ℕ, zero, suc}
 use mathlib.Core.Bool.{Bool, _||_, not}
 use mathlib.Core.List.{List, [], _∷_, _++_}
 use lib.Dec.{leb, ltb}
@@ -63,25 +63,40 @@ badPattern pattern = 8 when not (readablePattern pattern)
 abbrev pub severalLines : List ℕ → Row
 severalLines line = 9 when any lineEnd line
 
--- "Each entry tests the conditions that concern it, the smallest number first": the first row that is given, or "0 answered"
+-- "Each entry tests the conditions that concern it", one row after the other: the first that is given, or "0 answered"
 unfoldable pub refusal : List Row → ℕ
 refusal [] = 0
 refusal (r ∷ rows) = if r .given then r .number else refusal rows
 
+-- the rows of each question, "the smallest number first"
 abbrev pub pathRows : List ℕ → List Row
 pathRows path = badLength path ∷ badStart path ∷ badOctet path ∷ []
 
 abbrev pub decideRows : List ℕ → List ℕ → List ℕ → List Row
 decideRows file name path = tooLong file ∷ badName name ∷ pathRows path
 
+abbrev pub matchRows : List ℕ → List ℕ → List Row
+matchRows pattern path = tooLong pattern ∷ pathRows path ++ (badPattern pattern ∷ [])
+
+abbrev pub normaliseRows : ℕ → List ℕ → List Row
+normaliseRows room path = pathRows path ++ (noRoom room path ∷ [])
+
+abbrev pub lineRows : List ℕ → List Row
+lineRows line = tooLong line ∷ severalLines line ∷ []
+
 unfoldable pub decideRefusal : List ℕ → List ℕ → List ℕ → ℕ
 decideRefusal file name path = refusal (decideRows file name path)
 
 unfoldable pub matchRefusal : List ℕ → List ℕ → ℕ
-matchRefusal pattern path = refusal (tooLong pattern ∷ pathRows path ++ (badPattern pattern ∷ []))
+matchRefusal pattern path = refusal (matchRows pattern path)
 
 unfoldable pub normaliseRefusal : ℕ → List ℕ → ℕ
-normaliseRefusal room path = refusal (pathRows path ++ (noRoom room path ∷ []))
+normaliseRefusal room path = refusal (normaliseRows room path)
 
 unfoldable pub lineRefusal : List ℕ → ℕ
-lineRefusal line = refusal (tooLong line ∷ severalLines line ∷ [])
+lineRefusal line = refusal (lineRows line)
+
+-- an answer, or the refused form that its question has, with the number
+unfoldable pub unlessRefused : {A : Type 0} → ℕ → (ℕ → A) → A → A
+unlessRefused zero refused answer = answer
+unlessRefused (suc n) refused answer = refused (suc n)

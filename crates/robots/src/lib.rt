@@ -9,7 +9,7 @@ ghost use Rattle.lists.specs.Lists.{total};
 ghost use Rattle.protocol.specs.Normal.{normalPath};
 ghost use Rattle.protocol.specs.Pattern.{shapeOf, weight};
 ghost use Rattle.protocol.specs.Matching.{Matches};
-ghost use Rattle.protocol.specs.Refusals.{decideRows, matchRefusal, normaliseRefusal};
+ghost use Rattle.protocol.specs.Refusals.{decideRows, matchRows, normaliseRows, lineRows, matchRefusal, normaliseRefusal};
 ghost use Rattle.protocol.specs.Decision.{weightOf};
 ghost use Rattle.protocol.specs.Meaning.{ByTable, Shut, walkedRules};
 ghost use Rattle.protocol.specs.Answers.{decide, sideNumber, matchOf, foundNumber, normaliseOf, normaliseBuffer, lineAnswer, refusalOf, kindNumberOf, valuePlace, valueLength};
@@ -85,6 +85,7 @@ pub extern "C" fn robots_decide_compared(file: &[u8], name: &[u8], path: &[u8]) 
 #[no_mangle]
 pub extern "C" fn robots_match_refusal(pattern: &[u8], path: &[u8]) -> usize
     ensures { λ r. ⌜ r ≡ matchRefusal (now (pattern .entry)) (now (path .entry)) ⌝ }
+    ensures { λ r. ⌜ ByTable (matchRows (now (pattern .entry)) (now (path .entry))) r ⌝ }
 {
     matching::match_refusal(pattern, path)
 }
@@ -126,6 +127,7 @@ pub extern "C" fn robots_normalise(path: &[u8], buffer: &mut [u8]) -> usize
 #[no_mangle]
 pub extern "C" fn robots_normalise_refusal(path: &[u8], room: usize) -> usize
     ensures { λ r. ⌜ r ≡ normaliseRefusal room (now (path .entry)) ⌝ }
+    ensures { λ r. ⌜ ByTable (normaliseRows room (now (path .entry))) r ⌝ }
 {
     paths::normalise_refusal(path, room)
 }
@@ -133,6 +135,7 @@ pub extern "C" fn robots_normalise_refusal(path: &[u8], room: usize) -> usize
 #[no_mangle]
 pub extern "C" fn robots_line_refusal(line: &[u8]) -> usize
     ensures { λ r. ⌜ r ≡ refusalOf (lineAnswer (now (line .entry))) ⌝ }
+    ensures { λ r. ⌜ ByTable (lineRows (now (line .entry))) r ⌝ }
 {
     kinds::answers::line_refusal(line)
 }

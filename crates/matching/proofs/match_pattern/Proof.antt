@@ -1,9 +1,7 @@
 -- `matching::match_pattern` meets its contract. Assumes nothing.
-use Prim.Native.Nat.{ℕ}
 use mathlib.Core.Path.{sym, ap, _∙_}
-use mathlib.Core.Bool.{false}
 use borrow.Author.Needs.{needs}
-use Rattle.protocol.specs.declared.Walked.{Walked}
+use Rattle.protocol.specs.Answers.{refusedMatch, matchedBy}
 use Rattle.protocol.proofs.MatchAnswer.{match-refused, match-answered}
 use Rattle.matching.proofs.match_pattern.Statement.{statement}
 use Rattle.matching.proofs.match_pattern.Tie as tie
@@ -15,7 +13,7 @@ returns : tie.Need-returns
 returns c =
     let n = c .before .match-refusal in
     let a = c .before .before .before .before .args in
-    ap (λ (k : ℕ). record { refusal = k; found = false; compared = 0 }) (n .ensures)
+    ap refusedMatch (n .ensures)
     ∙ sym (match-refused (a .pattern .now) (a .path .now) (λ z. c .if1 .taken (n .ensures ∙ z)))
 
 walk-path-requires : tie.Need-walk-path-requires
@@ -24,7 +22,7 @@ walk-path-requires c κs = search needs
 returns-2 : tie.Need-returns-2
 returns-2 c =
     let a = c .before .before .before .before .before .args in
-    ap (λ (v : Walked). record { refusal = 0; found = v .stood; compared = v .count }) (c .walk-path .ensures)
+    ap matchedBy (c .walk-path .ensures)
     ∙ sym (match-answered (a .pattern .now) (a .path .now) (sym (c .before .before .match-refusal .ensures) ∙ c .before .if1 .left))
 
 pub match-pattern-spec : {M : Type 1} → statement M

@@ -1,20 +1,9 @@
 -- `output::answer_line` meets its contract. Assumes nothing.
-use Prim.Native.Nat.{ℕ, zero, suc}
-use mathlib.Core.Path.{_≡_, refl}
 use borrow.Author.Needs.{needs}
-use Rattle.protocol.specs.declared.Decision.{Decision}
-use Rattle.protocol.specs.Program.{refusedText, answerText, textBy}
+use Rattle.protocol.specs.Program.{refusedText, answerText}
+use Rattle.protocol.proofs.Refused.{unless-answered, unless-refused}
 use Rattle.output.proofs.answer_line.Statement.{statement}
 use Rattle.output.proofs.answer_line.Tie as tie
-
-refused : (n : ℕ) (d : Decision) → (n ≡ 0 → ⊥) → textBy n d ≡ refusedText n
-unfolding textBy
-refused zero d h = absurd (h refl)
-refused (suc n) d h = refl
-
-answered : (n : ℕ) (d : Decision) → n ≡ 0 → textBy n d ≡ answerText d
-unfolding textBy
-answered n d h = rw h
 
 refused-line-requires : tie.Need-refused-line-requires
 refused-line-requires c κs = search needs
@@ -22,7 +11,7 @@ refused-line-requires c κs = search needs
 returns : tie.Need-returns
 returns c =
     let d = c .before .before .before .args .decision in
-    rw (refused (d .refusal) d (c .before .if1 .taken)) (c .refused-line .ensures)
+    rw (unless-refused (d .refusal) refusedText (answerText d) (c .before .if1 .taken)) (c .refused-line .ensures)
 
 answered-line-requires : tie.Need-answered-line-requires
 answered-line-requires c κs = search needs
@@ -30,7 +19,7 @@ answered-line-requires c κs = search needs
 returns-2 : tie.Need-returns-2
 returns-2 c =
     let d = c .before .before .before .args .decision in
-    rw (answered (d .refusal) d (c .before .if1 .left)) (c .answered-line .ensures)
+    rw (unless-answered (d .refusal) refusedText (answerText d) (c .before .if1 .left)) (c .answered-line .ensures)
 
 pub answer-line-spec : {M : Type 1} → statement M
 answer-line-spec =
