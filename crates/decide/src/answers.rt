@@ -3,16 +3,14 @@
 ghost use mathlib.Core.Path.{_≡_};
 ghost use Prim.Native.Nat.{_≤_};
 ghost use lib.ListN.{length};
-ghost use Rattle.protocol.specs.Lines.{linesOf};
 ghost use Rattle.protocol.specs.Entries.{entries};
 ghost use Rattle.protocol.specs.Normal.{normalPath};
 ghost use Rattle.protocol.specs.Refusals.{decideRefusal};
 ghost use Rattle.protocol.specs.Decision.{answered};
 ghost use Rattle.protocol.specs.Answers.{decide};
-ghost use Rattle.tally.specs.Steps.{noTally};
-ghost use Rattle.passes.specs.Tallies.{tallied, asked};
+ghost use Rattle.passes.specs.Entries.{audienceFor};
+use protocol::Audience;
 use protocol::Decision;
-use tally::Tally;
 
 pub fn decide_refusal(file: &[u8], name: &[u8], path: &[u8]) -> usize
     ensures { λ r. ⌜ r ≡ decideRefusal (now (file .entry)) (now (name .entry)) (now (path .entry)) ⌝ }
@@ -26,22 +24,28 @@ pub fn decide_refusal(file: &[u8], name: &[u8], path: &[u8]) -> usize
     paths::path_refusal(path)
 }
 
-// Whose groups count is chosen first: nobody's for /robots.txt, the crawler's if some group names it, else those of "*".
-fn tally_for(file: &[u8], name: &[u8], path: &[u8], scratch: &mut [u8]) -> Tally
-    requires { ⌜ (length (now file) ≤ 512000) × (length (now path) ≤ 6142) × (length (now path) ≤ length (now scratch)) ⌝ }
-    ensures { λ r. ⌜ r ≡ tallied (asked (now (file .entry)) (now (name .entry)) (now (path .entry))) (now (path .entry)) noTally (linesOf (now (file .entry))) ⌝ }
+// Whose groups apply for a normalised path: nobody's for /robots.txt, which is always allowed.
+fn audience_for(file: &[u8], name: &[u8], path: &[u8]) -> Audience
+    ensures { λ r. ⌜ r ≡ audienceFor (now (file .entry)) (now (name .entry)) (now (path .entry)) ⌝ }
 {
     if paths::is_robots_file(path) {
-        return passes::fold(file, &name[..0], path, scratch);
+        return Audience::Nobody;
     }
-    if passes::some_group_names(file, name) {
-        return passes::fold(file, name, path, scratch);
-    }
-    let everyone = [b'*'];
-    passes::fold(file, &everyone, path, scratch)
+    passes::audience::choose_audience(file, name)
 }
 
-// The answer where nothing is refused, with memory for the normalised path and for the runs of patterns.
+// The answer about a normalised path, with memory for the runs of patterns.
+fn answer_for(file: &[u8], name: &[u8], path: &[u8], scratch: &mut [u8]) -> Decision
+    requires { ⌜ (length (now file) ≤ 512000) × (length (now path) ≤ 6142) × (length (now path) ≤ length (now scratch)) ⌝ }
+    ensures { λ r. ⌜ r ≡ answered (now (file .entry)) (entries (now (file .entry))) (now (name .entry)) (now (path .entry)) ⌝ }
+{
+    let audience = audience_for(file, name, path);
+    let g = passes::gather::gather(file, audience, name, path, scratch);
+    let c = g.considered;
+    considering::conclude(c, g.unread)
+}
+
+// The answer where nothing is refused, with memory for the normalised path too.
 fn answer_in(
     file: &[u8],
     name: &[u8],
@@ -53,9 +57,7 @@ fn answer_in(
     ensures { λ r. ⌜ r ≡ answered (now (file .entry)) (entries (now (file .entry))) (now (name .entry)) (normalPath (now (path .entry))) ⌝ }
 {
     let n = normal::write(false, path, buffer);
-    let t = tally_for(file, name, &buffer[..n], scratch);
-    let s = t.standing;
-    choice::conclude(s, t.unread)
+    answer_for(file, name, &buffer[..n], scratch)
 }
 
 // Room for a normalised path of at most 384 octets: to clear more would take longer than to decide by a small file.
@@ -94,7 +96,7 @@ pub fn decide(file: &[u8], name: &[u8], path: &[u8]) -> Decision
 {
     let refusal = decide_refusal(file, name, path);
     if refusal != 0 {
-        return choice::refused(refusal);
+        return considering::refused(refusal);
     }
     answer(file, name, path)
 }

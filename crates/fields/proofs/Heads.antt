@@ -15,11 +15,12 @@ use Rattle.lists.specs.Lists.{empty, all, any, upTo, from, same}
 use Rattle.lists.proofs.Bools.{split}
 use Rattle.lists.proofs.Parts.{upTo-from}
 use Rattle.lists.proofs.Scans.{rest-of, drop-one, drop-upTo, upTo-fits}
+use Rattle.protocol.specs.declared.Place.{Place}
 use Rattle.protocol.specs.declared.Side.{Side}
 use Rattle.protocol.specs.declared.Kind.{Kind}
 use Rattle.protocol.specs.Octets.{is, blank, lineEnd, upper, lowerCase}
 use Rattle.protocol.specs.Text.{octets, begins, sameIgnoringCase, solid, lead, trim}
-use Rattle.protocol.specs.Lines.{lineText}
+use Rattle.protocol.specs.Lines.{placeAt, lineText}
 use Rattle.protocol.specs.Kinds.{agentAt, patternAt, isField, fieldKind, kindOf}
 use Rattle.text.proofs.Comparing.{case-short}
 use Rattle.text.proofs.Trims.{trim-fits}
@@ -124,7 +125,7 @@ name-fits w t h =
     split (ltb (length t) (length w)) (λ e. absurd (false≢true (case-short t w (ltb-true (length t) (length w) e) ∙ h)))
     (λ e. ltb-false (length t) (length w) e)
 
-field-kind-of : (field v : List ℕ) (p : ℕ) → fieldOf (fieldKind field p v) ≡ found (isField "user-agent" field) (isField "allow" field) (isField "disallow" field)
+field-kind-of : (field v : List ℕ) (p : Place) → fieldOf (fieldKind field p v) ≡ found (isField "user-agent" field) (isField "allow" field) (isField "disallow" field)
 unfolding fieldKind
 field-kind-of field v p =
     split (isField "user-agent" field) (λ a. rw a)
@@ -195,7 +196,7 @@ lead-inside r n h = omega (arith, trim-fits (drop n r), length-drop n r, ap lead
 abbrev Known : Field → Type 0
 Known f = OneOf (0 ∷ 1 ∷ 2 ∷ []) (tagOf F.the-type f)
 
-head-of-field : (f : Field) (p : ℕ) → Known f → record { field = f; value = p } ≡ headAt f p
+head-of-field : (f : Field) (p : Place) → Known f → record { field = f; value = p } ≡ headAt f p
 head-of-field Field.Agent p h = refl
 head-of-field Field.Allow p h = refl
 head-of-field Field.Disallow p h = refl
@@ -210,7 +211,7 @@ module _ (r : List ℕ) (start : ℕ) (f : Field) (s : start ≡ lead r) (k : f 
   field-told : f ≡ fieldAt (from solid r)
   field-told = k ∙ ap fieldAt (past-start r start s)
 
-  pub head-other : f ≡ Field.Other → record { field = Field.Other; value = 0 } ≡ headOf r
+  pub head-other : f ≡ Field.Other → record { field = Field.Other; value = placeAt 0 } ≡ headOf r
   unfolding headOf
   head-other e =
       let other : fieldAt (from solid r) ≡ Field.Other = sym field-told ∙ e in
@@ -257,7 +258,7 @@ module _ (r : List ℕ) (start : ℕ) (f : Field) (s : start ≡ lead r) (k : f 
         let seen : begins ":" (from solid (drop (nameLength f) (from solid r))) ≡ b = ap (begins ":") (sym colon-rest) ∙ e in
         rw (field-known r, ← field-told, seen)
 
-    pub head-none : begins ":" (drop colon r) ≡ false → record { field = Field.Other; value = 0 } ≡ headOf r
+    pub head-none : begins ":" (drop colon r) ≡ false → record { field = Field.Other; value = placeAt 0 } ≡ headOf r
     head-none e = head-by false e
 
     start-found : begins ":" (drop colon r) ≡ true → colon ≡ length (upTo (is ":") r)
@@ -267,34 +268,34 @@ module _ (r : List ℕ) (start : ℕ) (f : Field) (s : start ≡ lead r) (k : f 
         omega (arith, colon-told, a, s, colon-past r, begun-place (octets (nameOf f)) t (names-plain f) both, ap lead after-told)
 
     pub head-some : (value : ℕ) → begins ":" (drop colon r) ≡ true → Known f
-        → value ≡ colon + 1 + lead (take (length r - (colon + 1)) (drop (colon + 1) r)) → record { field = f; value = value } ≡ headOf r
+        → value ≡ colon + 1 + lead (take (length r - (colon + 1)) (drop (colon + 1) r)) → record { field = f; value = placeAt value } ≡ headOf r
     unfolding valueStart
     head-some value e other v =
-        let start-value : value ≡ valueStart r = v ∙ rw (rest-of (colon + 1) r, start-found e) in
+        let start-value : placeAt value ≡ valueStart r = ap placeAt (v ∙ rw (rest-of (colon + 1) r, start-found e)) in
         rw start-value (head-of-field f (valueStart r) other ∙ head-by true e)
 
 -- the kind that a field's line has; k where the field is the other one
-abbrev kindAs : Field → ℕ → List ℕ → Kind → Kind
+abbrev kindAs : Field → Place → List ℕ → Kind → Kind
 kindAs Field.Agent p v k = Kind.Agent (agentAt p v)
 kindAs Field.Allow p v k = Kind.Rule Side.Allow (patternAt p v)
 kindAs Field.Disallow p v k = Kind.Rule Side.Disallow (patternAt p v)
 kindAs Field.Other p v k = k
 
 -- a rule's line: neither the other field nor the agent's
-rule-as : (f : Field) (p : ℕ) (v : List ℕ) (k : Kind) → Known f → OneOf (1 ∷ 2 ∷ 3 ∷ []) (tagOf F.the-type f)
+rule-as : (f : Field) (p : Place) (v : List ℕ) (k : Kind) → Known f → OneOf (1 ∷ 2 ∷ 3 ∷ []) (tagOf F.the-type f)
     → Kind.Rule (sideOf f) (patternAt p v) ≡ kindAs f p v k
 rule-as Field.Agent p v k h i = absurd (miss (1 ∷ 2 ∷ 3 ∷ []) 0 tt i)
 rule-as Field.Allow p v k h i = refl
 rule-as Field.Disallow p v k h i = refl
 rule-as Field.Other p v k h i = absurd (miss (0 ∷ 1 ∷ 2 ∷ []) 3 tt h)
 
-as-field : (field v : List ℕ) (p : ℕ) → kindAs (fieldOf (fieldKind field p v)) p v Kind.Other ≡ fieldKind field p v
+as-field : (field v : List ℕ) (p : Place) → kindAs (fieldOf (fieldKind field p v)) p v Kind.Other ≡ fieldKind field p v
 unfolding fieldKind
 as-field field v p =
     split (isField "user-agent" field) (λ a. rw a)
     (λ a. split (isField "allow" field) (λ b. rw (a, b)) (λ b. split (isField "disallow" field) (λ c. rw (a, b, c)) (λ c. rw (a, b, c))))
 
-as-known : (f : Field) (p : ℕ) (v : List ℕ) (k : Kind) → kindAs f p v Kind.Other ≡ k → kindAs f p v k ≡ k
+as-known : (f : Field) (p : Place) (v : List ℕ) (k : Kind) → kindAs f p v Kind.Other ≡ k → kindAs f p v k ≡ k
 as-known Field.Agent p v k h = h
 as-known Field.Allow p v k h = h
 as-known Field.Disallow p v k h = h
@@ -322,21 +323,21 @@ module _ (r : List ℕ) where
     unfolding headOf
     head-field = ap (λ (g : Head). g .field) e ∙ go (fieldOf (kindOf (lineText r))) (valueStart r)
       where
-        go : (f : Field) (p : ℕ) → headAt f p .field ≡ f
+        go : (f : Field) (p : Place) → headAt f p .field ≡ f
         go Field.Agent p = refl
         go Field.Allow p = refl
         go Field.Disallow p = refl
         go Field.Other p = refl
 
     -- The value that a head tells begins inside the file.
-    pub head-inside : h .value ≤ length r
+    pub head-inside : h .value .offset ≤ length r
     unfolding headOf
     head-inside =
         split (any (is ":") (upTo stop r))
         (λ d. rw (ap (λ (g : Head). g .value) e) (go (fieldOf (kindOf (lineText r))) (start-inside r d)))
         (λ d. rw (ap (λ (g : Head). g .value) e, no-colon r d) (omega arith))
       where
-        go : {p : ℕ} (f : Field) → p ≤ length r → headAt f p .value ≤ length r
+        go : {p : Place} (f : Field) → p .offset ≤ length r → headAt f p .value .offset ≤ length r
         go Field.Agent k = k
         go Field.Allow k = k
         go Field.Disallow k = k

@@ -12,10 +12,11 @@ use Rattle.lists.proofs.Bools.{split}
 use Rattle.lists.proofs.Parts.{upTo-from}
 use Rattle.lists.proofs.Scans.{drop-upTo, drop-past, upTo-fits}
 use Rattle.lists.proofs.Places.{occurs-fits, occurs-past}
+use Rattle.protocol.specs.declared.Place.{Place}
 use Rattle.protocol.specs.declared.Kind.{Kind}
 use Rattle.protocol.specs.Octets.{is, lineEnd}
 use Rattle.protocol.specs.Text.{solid, lead, trimEnd, trim}
-use Rattle.protocol.specs.Lines.{lineText}
+use Rattle.protocol.specs.Lines.{placeAt, placeAfter, lineText}
 use Rattle.protocol.specs.Kinds.{agentAt, patternAt, fieldKind, recordKind, restKind, uncommented, kindOf}
 use Rattle.fields.specs.Fields.{valueStart, stop, valueAt}
 use Rattle.lists.proofs.Cuts.{from-none, upTo-either, upTo-before, past-before, any-before, upTo-first, upTo-past, from-past, any-past}
@@ -23,16 +24,16 @@ use Rattle.fields.proofs.Ends.{any-end, upTo-end, past-end, trim-end, t
 use Rattle.fields.proofs.Sorts.{stop-solid, colon-solid}
 
 -- where the value is empty its place doesn't matter
-place-free : (field : List ℕ) (p q : ℕ) → fieldKind field p [] ≡ fieldKind field q []
+place-free : (field : List ℕ) (p q : Place) → fieldKind field p [] ≡ fieldKind field q []
 unfolding fieldKind agentAt patternAt
 place-free field p q = refl
 
-record-rest : (l : List ℕ) (p : ℕ) → any (is ":") l ≡ true → restKind p l ≡ recordKind p l
+record-rest : (l : List ℕ) (p : Place) → any (is ":") l ≡ true → restKind p l ≡ recordKind p l
 unfolding restKind any
 record-rest [] p h = absurd (false≢true h)
 record-rest (c ∷ l) p h = rw h
 
-idle-rest : (l : List ℕ) (p : ℕ) → any (is ":") l ≡ false → restKind p l ≡ (if empty l then Kind.Blank else Kind.Noise)
+idle-rest : (l : List ℕ) (p : Place) → any (is ":") l ≡ false → restKind p l ≡ (if empty l then Kind.Blank else Kind.Noise)
 unfolding restKind
 idle-rest l p h = rw h
 
@@ -42,18 +43,18 @@ colon-trim l = any-end (is ":") colon-solid (from solid l) ∙ any-past (is ":")
 
 module _ (r : List ℕ) where
   -- what is examined of the line
-  rest-told : kindOf (lineText r) ≡ restKind (lead (upTo stop r)) (trim (upTo stop r))
+  rest-told : kindOf (lineText r) ≡ restKind (placeAt (lead (upTo stop r))) (trim (upTo stop r))
   unfolding kindOf uncommented stop
   rest-told = rw (upTo-either (is "#") lineEnd r)
 
   pub kind-idle : any (is ":") (upTo stop r) ≡ false → kindOf (lineText r) ≡ (if empty (trim (upTo stop r)) then Kind.Blank else Kind.Noise)
-  kind-idle h = rest-told ∙ idle-rest (trim (upTo stop r)) (lead (upTo stop r)) (colon-trim (upTo stop r) ∙ h)
+  kind-idle h = rest-told ∙ idle-rest (trim (upTo stop r)) (placeAt (lead (upTo stop r))) (colon-trim (upTo stop r) ∙ h)
 
   -- the octets behind the first colon
   abbrev behind : List ℕ
   behind = tail (from (is ":") r)
 
-  start-told : valueStart r ≡ length (upTo (is ":") r) + 1 + lead behind
+  start-told : valueStart r .offset ≡ length (upTo (is ":") r) + 1 + lead behind
   unfolding valueStart
   start-told = rw (drop-past (is ":") r)
 
@@ -94,11 +95,15 @@ module _ (r : List ℕ) where
           length-append (upTo solid e) (from solid e),
         )
 
-    value-place : any solid (upTo stop behind) ≡ true
-        → lead (upTo stop r) + length (from solid (upTo (is ":") r)) + 1 + lead (trimEnd (upTo stop behind)) ≡ valueStart r
+    -- where the definition finds it
+    abbrev place : Place
+    place = placeAfter (placeAt (lead (upTo stop r))) (length (from solid (upTo (is ":") r)) + 1 + lead (trimEnd (upTo stop behind)))
+
+    value-place : any solid (upTo stop behind) ≡ true → place ≡ valueStart r
     unfolding lead
     value-place k =
-        omega (arith, field-size, start-told, ap length (upTo-end solid (λ x s. s) (upTo stop behind) k), ap length (upTo-first stop solid stop-solid behind))
+        ap placeAt
+        (omega (arith, field-size, start-told, ap length (upTo-end solid (λ x s. s) (upTo stop behind) k), ap length (upTo-first stop solid stop-solid behind)))
 
     -- The kind of a line with a colon.
     pub kind-colon : kindOf (lineText r) ≡ fieldKind (trim (upTo (is ":") r)) (valueStart r) (valueAt (valueStart r) r)
@@ -106,16 +111,15 @@ module _ (r : List ℕ) where
     kind-colon =
         let field : List ℕ = trim (upTo (is ":") r) in
         let value : List ℕ = upTo stop behind in
-        let place : ℕ = lead (upTo stop r) + length (from solid (upTo (is ":") r)) + 1 + lead (trimEnd value) in
         let same-value : fieldKind field place (trim value) ≡ fieldKind field (valueStart r) (trim value)
-        = split (any solid value) (λ k. ap (λ (p : ℕ). fieldKind field p (trim value)) (value-place k))
+        = split (any solid value) (λ k. ap (λ (p : Place). fieldKind field p (trim value)) (value-place k))
         (λ k. rw (from-none solid value k) (place-free field place (valueStart r))) in
         rest-told
-        ∙ record-rest (trim (upTo stop r)) (lead (upTo stop r)) (colon-trim (upTo stop r) ∙ h)
+        ∙ record-rest (trim (upTo stop r)) (placeAt (lead (upTo stop r))) (colon-trim (upTo stop r) ∙ h)
         ∙ rw (field-part, value-part, trim-from (upTo (is ":") r), trim-end value, value-told) same-value
 
     -- Its value begins inside the file.
-    pub start-inside : valueStart r ≤ length r
+    pub start-inside : valueStart r .offset ≤ length r
     unfolding lead
     start-inside =
         omega (

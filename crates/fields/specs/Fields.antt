@@ -5,11 +5,12 @@ use mathlib.Core.Bool.{Bool, true, _||_}
 use mathlib.Core.List.{List, [], _∷_}
 use lib.ListN.{length, drop}
 use Rattle.lists.specs.Lists.{upTo}
+use Rattle.protocol.specs.declared.Place.{Place}
 use Rattle.protocol.specs.declared.Side.{Side}
 use Rattle.protocol.specs.declared.Kind.{Kind}
 use Rattle.protocol.specs.Octets.{is, lineEnd}
 use Rattle.protocol.specs.Text.{lead, trimEnd}
-use Rattle.protocol.specs.Lines.{lineText}
+use Rattle.protocol.specs.Lines.{placeAt, lineText}
 use Rattle.protocol.specs.Kinds.{kindOf}
 use Rattle.fields.specs.declared.Field.{Field}
 use Rattle.fields.specs.declared.Head.{Head}
@@ -31,15 +32,15 @@ sideOf Field.Disallow = Side.Disallow
 sideOf Field.Other = Side.Allow
 
 -- behind the first colon and the spaces and tabs behind it
-unfoldable pub valueStart : List ℕ → ℕ
-valueStart l = let c = length (upTo (is ":") l) + 1 in c + lead (drop c l)
+unfoldable pub valueStart : List ℕ → Place
+valueStart l = let c = length (upTo (is ":") l) + 1 in placeAt (c + lead (drop c l))
 
 -- a field, and where its value begins; 0 where the protocol doesn't know the field
-abbrev pub headAt : Field → ℕ → Head
+abbrev pub headAt : Field → Place → Head
 headAt Field.Agent p = record { field = Field.Agent; value = p }
 headAt Field.Allow p = record { field = Field.Allow; value = p }
 headAt Field.Disallow p = record { field = Field.Disallow; value = p }
-headAt Field.Other p = record { field = Field.Other; value = 0 }
+headAt Field.Other p = record { field = Field.Other; value = placeAt 0 }
 
 unfoldable pub headOf : List ℕ → Head
 headOf l = headAt (fieldOf (kindOf (lineText l))) (valueStart l)
@@ -58,5 +59,5 @@ ended [] = true
 ended (x ∷ l) = stop x
 
 -- the value that begins at p
-unfoldable pub valueAt : ℕ → List ℕ → List ℕ
-valueAt p l = trimEnd (upTo stop (drop p l))
+unfoldable pub valueAt : Place → List ℕ → List ℕ
+valueAt p l = trimEnd (upTo stop (drop (p .offset) l))

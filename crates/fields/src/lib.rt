@@ -6,10 +6,12 @@ ghost use lib.ListN.{length, drop, getD};
 ghost use Rattle.lists.specs.Lists.{upTo};
 ghost use Rattle.protocol.specs.Octets.{lowerCase};
 ghost use Rattle.protocol.specs.Text.{begins};
+ghost use Rattle.protocol.specs.Lines.{placeAt};
 ghost use Rattle.text.specs.Parts.{equals};
 ghost use Rattle.fields.specs.Fields.{headOf};
 ghost use Rattle.fields.specs.Names.{nameLength, rowOf, beginsName, fieldNamed, fieldAt};
 use protocol::FIELDS;
+use protocol::Place;
 
 // A field that the protocol knows, or any other; a line without a field has the other one.
 pub enum Field {
@@ -22,7 +24,7 @@ pub enum Field {
 // The field of a line, and where its value begins: 0 where the field is the other one.
 pub struct Head {
     pub field: Field,
-    pub value: usize,
+    pub value: Place,
 }
 
 // The row of a field's name. Any other field can have any name: none of a row's octets belong to it.
@@ -106,21 +108,22 @@ fn field_at(s: &[u8]) -> Field
 }
 
 // A colon stands there.
-pub fn colon_at(s: &[u8], n: usize) -> bool
-    ensures { λ r. ⌜ r ≡ begins ":" (drop n (now (s .entry))) ⌝ }
+pub fn colon_at(s: &[u8], at: Place) -> bool
+    ensures { λ r. ⌜ r ≡ begins ":" (drop (at .offset) (now (s .entry))) ⌝ }
 {
-    if s.len() <= n {
+    let i = at.offset;
+    if s.len() <= i {
         return false;
     }
-    s[n] == b':'
+    s[i] == b':'
 }
 
 fn no_head() -> Head
-    ensures { λ r. ⌜ r ≡ record { field = Field.Other; value = 0 } ⌝ }
+    ensures { λ r. ⌜ r ≡ record { field = Field.Other; value = placeAt 0 } ⌝ }
 {
     Head {
         field: Field::Other,
-        value: 0,
+        value: Place { offset: 0 },
     }
 }
 
@@ -135,10 +138,13 @@ pub fn head_of(r: &[u8]) -> Head
     }
     let after = start + name_length(field);
     let colon = after + text::lead(&r[after..]);
-    if !colon_at(r, colon) {
+    if !colon_at(r, Place { offset: colon }) {
         return no_head();
     }
     let behind = colon + 1;
     let value = behind + text::lead(&r[behind..]);
-    Head { field, value }
+    Head {
+        field,
+        value: Place { offset: value },
+    }
 }

@@ -12,6 +12,7 @@ use Rattle.lists.specs.Lists.{upTo, from}
 use Rattle.lists.proofs.Bools.{split, and-left}
 use Rattle.lists.proofs.Parts.{upTo-from}
 use Rattle.lists.proofs.Scans.{rest-of, drop-one, take-upTo, drop-upTo, upTo-fits}
+use Rattle.protocol.specs.declared.Place.{Place}
 use Rattle.protocol.specs.Octets.{is}
 use Rattle.protocol.specs.Text.{begins, trimEnd}
 use Rattle.protocol.specs.Readable.{wellFormed, patternStart, readablePattern}
@@ -32,14 +33,14 @@ pub value-fits : (l : List ℕ) → length (trimEnd (upTo stop l)) ≤ length l
 value-fits l = omega (arith, end-fits (upTo stop l), upTo-fits stop l)
 
 -- the value at the place p
-module _ (r : List ℕ) (p : ℕ) where
-  pub value-of : trimEnd (upTo stop (take (length r - p) (drop p r))) ≡ valueAt p r
+module _ (r : List ℕ) (p : Place) where
+  pub value-of : trimEnd (upTo stop (take (length r - p .offset) (drop (p .offset) r))) ≡ valueAt p r
   unfolding valueAt
-  value-of = rw (rest-of p r)
+  value-of = rw (rest-of (p .offset) r)
 
-  pub value-at : (n : ℕ) → n ≡ length (trimEnd (upTo stop (take (length r - p) (drop p r)))) → take n (take (length r - p) (drop p r)) ≡ valueAt p r
+  pub value-at : (n : ℕ) → n ≡ length (trimEnd (upTo stop (take (length r - p .offset) (drop (p .offset) r)))) → take n (take (length r - p .offset) (drop (p .offset) r)) ≡ valueAt p r
   value-at n e =
-      let rest : List ℕ = take (length r - p) (drop p r) in
+      let rest : List ℕ = take (length r - p .offset) (drop (p .offset) r) in
       ap (λ (i : ℕ). take i rest) e ∙ value-read rest ∙ value-of
 
 -- nothing is examined from n on

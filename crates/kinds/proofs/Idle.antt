@@ -15,7 +15,7 @@ use Rattle.protocol.specs.Text.{begins, solid, lead, trimEnd, trim}
 use Rattle.protocol.specs.Lines.{lineText}
 use Rattle.protocol.specs.Kinds.{kindOf}
 use Rattle.fields.specs.declared.Field.{Field}
-use Rattle.fields.specs.Fields.{fieldOf, stop, delimiter}
+use Rattle.fields.specs.Fields.{fieldOf, stop, delimiter, ended}
 use Rattle.lists.proofs.Cuts.{upTo-none, upTo-either, upTo-past, any-past}
 use Rattle.fields.proofs.Ends.{end-empty}
 use Rattle.fields.proofs.Reading.{kind-idle}
@@ -66,3 +66,13 @@ module _ (r : List ℕ) (start n : ℕ) (s : start ≡ lead r) (k : n ≡ length
 
     pub idle-noise : (n ≡ 0 → ⊥) → Kind.Noise ≡ kindOf (lineText r)
     idle-noise z = sym (idle-told ∙ rw (empty-some (upTo delimiter (from solid r)) (λ d. z (delimiter-told ∙ d))))
+
+-- A line that begins with what ends it is blank.
+none-examined : (r : List ℕ) → ended r ≡ true → upTo stop r ≡ []
+unfolding upTo
+none-examined [] e = refl
+none-examined (x ∷ l) e = rw e
+
+pub ended-blank : (r : List ℕ) → ended r ≡ true → Kind.Blank ≡ kindOf (lineText r)
+unfolding any trim trimEnd from
+ended-blank r e = let none : upTo stop r ≡ [] = none-examined r e in sym (kind-idle r (rw none) ∙ rw none)

@@ -3,6 +3,7 @@
 ghost use mathlib.Core.Path.{_≡_};
 ghost use Rattle.protocol.specs.Answers.{lineAnswer, refusalOf};
 use protocol::LineAnswer;
+use protocol::Place;
 
 pub fn line_refusal(line: &[u8]) -> usize
     ensures { λ r. ⌜ r ≡ refusalOf (lineAnswer (now (line .entry))) ⌝ }
@@ -10,7 +11,8 @@ pub fn line_refusal(line: &[u8]) -> usize
     if 512000 < line.len() {
         return 1;
     }
-    if text::line_end(line, 0) < line.len() {
+    let end = text::line_end(line, Place { offset: 0 });
+    if end.offset < line.len() {
         return 9;
     }
     0

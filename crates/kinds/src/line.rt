@@ -22,7 +22,7 @@ use protocol::Side;
 
 // The agent of a value, which stands at that place of the line.
 fn agent_at(place: Place, value: &[u8]) -> Agent
-    ensures { λ r. ⌜ r ≡ agentAt (place .offset) (now (value .entry)) ⌝ }
+    ensures { λ r. ⌜ r ≡ agentAt place (now (value .entry)) ⌝ }
 {
     if value.len() == 0 {
         return Agent::Unreadable(Place { offset: 0 }, 0);
@@ -36,7 +36,7 @@ fn agent_at(place: Place, value: &[u8]) -> Agent
 
 // The pattern of a value, likewise.
 fn pattern_at(place: Place, value: &[u8]) -> Pattern
-    ensures { λ r. ⌜ r ≡ patternAt (place .offset) (now (value .entry)) ⌝ }
+    ensures { λ r. ⌜ r ≡ patternAt place (now (value .entry)) ⌝ }
 {
     if value.len() == 0 {
         return Pattern::Empty;
@@ -84,29 +84,31 @@ fn value_length(s: &[u8]) -> usize
 }
 
 // The agent of the value that begins there.
-pub fn agent_of(r: &[u8], value: usize) -> Agent
-    requires { ⌜ value ≤ length (now r) ⌝ }
+fn agent_of(r: &[u8], value: Place) -> Agent
+    requires { ⌜ value .offset ≤ length (now r) ⌝ }
     ensures { λ a. ⌜ a ≡ agentAt value (valueAt value (now (r .entry))) ⌝ }
 {
-    let rest = &r[value..];
+    let start = value.offset;
+    let rest = &r[start..];
     let end = value_length(rest);
-    agent_at(Place { offset: value }, &rest[..end])
+    agent_at(value, &rest[..end])
 }
 
-// Nothing is examined from n on.
-fn ends_at(s: &[u8], n: usize) -> bool
-    ensures { λ r. ⌜ r ≡ ended (drop n (now (s .entry))) ⌝ }
+// Nothing is examined from there on.
+fn ends_at(s: &[u8], at: Place) -> bool
+    ensures { λ r. ⌜ r ≡ ended (drop (at .offset) (now (s .entry))) ⌝ }
 {
-    if s.len() <= n {
+    let i = at.offset;
+    if s.len() <= i {
         return true;
     }
-    is_stop(s[n])
+    is_stop(s[i])
 }
 
 // The pattern of a value of whole characters.
 fn formed_pattern(place: Place, value: &[u8]) -> Pattern
     requires { ⌜ wellFormed [] (now value) ≡ true ⌝ }
-    ensures { λ r. ⌜ r ≡ patternAt (place .offset) (now (value .entry)) ⌝ }
+    ensures { λ r. ⌜ r ≡ patternAt place (now (value .entry)) ⌝ }
 {
     if value.len() == 0 {
         return Pattern::Empty;
@@ -118,17 +120,18 @@ fn formed_pattern(place: Place, value: &[u8]) -> Pattern
 }
 
 // The pattern of the value that begins there. Most are of ordinary octets alone, which hold no space and are whole characters.
-pub fn pattern_of(r: &[u8], value: usize) -> Pattern
-    requires { ⌜ value ≤ length (now r) ⌝ }
+fn pattern_of(r: &[u8], value: Place) -> Pattern
+    requires { ⌜ value .offset ≤ length (now r) ⌝ }
     ensures { λ p. ⌜ p ≡ patternAt value (valueAt value (now (r .entry))) ⌝ }
 {
-    let rest = &r[value..];
+    let start = value.offset;
+    let rest = &r[start..];
     let n = readable::ordinary_front(rest);
-    if ends_at(rest, n) {
-        return formed_pattern(Place { offset: value }, &rest[..n]);
+    if ends_at(rest, Place { offset: n }) {
+        return formed_pattern(value, &rest[..n]);
     }
     let end = value_length(rest);
-    pattern_at(Place { offset: value }, &rest[..end])
+    pattern_at(value, &rest[..end])
 }
 
 // A colon or a stop. Most octets are past all of them.
@@ -166,7 +169,7 @@ fn idle_kind(r: &[u8]) -> Kind
     let start = text::lead(r);
     let rest = &r[start..];
     let n = field_end(rest);
-    if fields::colon_at(rest, n) {
+    if fields::colon_at(rest, Place { offset: n }) {
         return Kind::Other;
     }
     if n == 0 {
@@ -203,8 +206,12 @@ pub fn kind_at(r: &[u8], head: Head) -> Kind
     Kind::Rule(side, pattern_of(r, head.value))
 }
 
+// Most lines that have no field begin with what ends them.
 pub fn kind_of(r: &[u8]) -> Kind
     ensures { λ k. ⌜ k ≡ kindOf (lineText (now (r .entry))) ⌝ }
 {
+    if ends_at(r, Place { offset: 0 }) {
+        return Kind::Blank;
+    }
     kind_at(r, fields::head_of(r))
 }

@@ -1,6 +1,7 @@
--- The line ending that a text begins with, and the leading mark of a file, octet by octet. Assumes nothing.
-use Prim.Native.Nat.{ℕ, _≤_, _<_}
-use mathlib.Core.Path.{_≡_, refl}
+-- The line ending that a text begins with, and the leading mark of a file, octet by octet; an octet that closes its line, and any other.
+-- Assumes nothing.
+use Prim.Native.Nat.{ℕ, suc, _≤_, _<_}
+use mathlib.Core.Path.{_≡_, refl, sym, ap, ap₂, _∙_}
 use mathlib.Core.Bool.{Bool, true, false, _&&_, _||_, not, and-false, true≢false, false≢true}
 use mathlib.Core.List.{List, [], _∷_}
 use native.Mathlib.Omega.{arith}
@@ -8,41 +9,42 @@ use lib.Dec.{eqb}
 use lib.ListN.{length, getD}
 use borrow.Author.Tests.{eqb-true}
 use Rattle.lists.specs.Choice.{if_then_else_}
-use Rattle.lists.proofs.Bools.{and-left, and-right}
+use Rattle.lists.proofs.Bools.{split}
+use Rattle.protocol.specs.declared.LineNumber.{LineNumber}
+use Rattle.protocol.specs.declared.Place.{Place}
 use Rattle.protocol.specs.Octets.{is, lineEnd}
 use Rattle.protocol.specs.Text.{begins}
-use Rattle.protocol.specs.Lines.{endingLength, hasLeadingMark}
+use Rattle.protocol.specs.Lines.{numberAfter, placeAfter, endingLength, lineLength, linesFrom, hasLeadingMark}
+use Rattle.protocol.proofs.FrontToBack.{length-on, length-ending, linesBehind}
+use Rattle.lines.specs.Skips.{closes}
 
 pub no-ending : (s : List ℕ) → length s ≡ 0 → endingLength s ≡ 0
 unfolding endingLength
 no-ending [] h = refl
 no-ending (c ∷ l) h = absurd (omega arith)
 
-pub text-ending : (s : List ℕ) → 0 < length s → lineEnd (getD s 0 0) ≡ false → endingLength s ≡ 0
-unfolding endingLength
-text-ending [] h e = absurd (omega arith)
-text-ending (c ∷ l) h e = rw e
-
 -- an ending of CR LF, and any other
-cr-lf-ending : (c : ℕ) (l : List ℕ) → (is "\r" c && begins "\n" l) ≡ true → endingLength (c ∷ l) ≡ 2
-unfolding endingLength lineEnd
-cr-lf-ending c l h =
-    let cr : c ≡ 13 = eqb-true c 13 (and-left (is "\r" c) (begins "\n" l) h) in
-    rw (cr, and-right (is "\r" c) (begins "\n" l) h)
+module _ (c : ℕ) (l : List ℕ) where
+  cr-lf-ending : (is "\r" c && begins "\n" l) ≡ true → endingLength (c ∷ l) ≡ 2
+  unfolding endingLength
+  cr-lf-ending h = rw h
 
-other-ending : (c : ℕ) (l : List ℕ) → lineEnd c ≡ true → (is "\r" c && begins "\n" l) ≡ false → endingLength (c ∷ l) ≡ 1
-unfolding endingLength lineEnd
-other-ending c l = go (is "\r" c) (is "\n" c) (begins "\n" l)
-  where
-    size : Bool → Bool → Bool → ℕ
-    size r f lf = if r || f then (if f || (r && not lf) then 1 else 2) else 0
+  other-ending : lineEnd c ≡ true → (is "\r" c && begins "\n" l) ≡ false → endingLength (c ∷ l) ≡ 1
+  unfolding endingLength
+  other-ending e h = rw (h, e)
 
-    go : (r f lf : Bool) → (r || f) ≡ true → (r && lf) ≡ false → size r f lf ≡ 1
-    go true true lf k m = refl
-    go true false true k m = absurd (true≢false m)
-    go true false false k m = refl
-    go false true lf k m = refl
-    go false false lf k m = absurd (false≢true k)
+  none-ending : lineEnd c ≡ false → endingLength (c ∷ l) ≡ 0
+  unfolding endingLength lineEnd
+  none-ending = go (is "\r" c) (is "\n" c) (begins "\n" l)
+    where
+      go : (r f lf : Bool) → (r || f) ≡ false → _≡_ {A = ℕ} (if r && lf then 2 else if r || f then 1 else 0) 0
+      go true f lf e = absurd (true≢false e)
+      go false true lf e = absurd (true≢false e)
+      go false false lf e = refl
+
+pub text-ending : (s : List ℕ) → 0 < length s → lineEnd (getD s 0 0) ≡ false → endingLength s ≡ 0
+text-ending [] h e = absurd (omega arith)
+text-ending (c ∷ l) h e = none-ending c l e
 
 -- one octet is left, or more
 pub last-ending : (s : List ℕ) → length s ≡ 1 → lineEnd (getD s 0 0) ≡ true → endingLength s ≡ 1
@@ -62,6 +64,64 @@ unfolding begins
 one-ending [] h e g = absurd (omega arith)
 one-ending (c ∷ []) h e g = absurd (omega arith)
 one-ending (c ∷ d ∷ l) h e g = other-ending c (d ∷ l) e g
+
+-- an octet that closes its line
+module _ (c : ℕ) (lf : Bool) where
+  pub closing-ends : closes c lf ≡ true → lineEnd c ≡ true
+  unfolding lineEnd
+  closing-ends = go (is "\r" c) (is "\n" c) lf
+    where
+      go : (r f lf : Bool) → (f || (r && not lf)) ≡ true → (r || f) ≡ true
+      go true f lf e = refl
+      go false true lf e = refl
+      go false false lf e = e
+
+  -- is no CR of a CR LF
+  closing-other : closes c lf ≡ true → (is "\r" c && lf) ≡ false
+  closing-other e = split (is "\n" c) (λ f. rw (eqb-true c 10 f)) (λ f. go (is "\r" c) lf (rw f at e))
+    where
+      go : (r lf : Bool) → (r && not lf) ≡ true → (r && lf) ≡ false
+      go true true h = absurd (false≢true h)
+      go true false h = refl
+      go false lf h = refl
+
+  -- any other ending octet is
+  open-cr : closes c lf ≡ false → lineEnd c ≡ true → (is "\r" c ≡ true) × (lf ≡ true)
+  unfolding lineEnd
+  open-cr = go (is "\r" c) (is "\n" c) lf
+    where
+      go : (r f lf : Bool) → (f || (r && not lf)) ≡ false → (r || f) ≡ true → (r ≡ true) × (lf ≡ true)
+      go r true lf e g = absurd (true≢false e)
+      go true false true e g = (refl, refl)
+      go true false false e g = absurd (true≢false e)
+      go false false lf e g = absurd (true≢false (sym g))
+
+-- It is the last octet of its line, and behind any other the same line goes on.
+pub length-closed : (c : ℕ) (l : List ℕ) → closes c (begins "\n" l) ≡ true → lineLength (c ∷ l) ≡ 1
+length-closed c l e =
+    let g = closing-ends c (begins "\n" l) e in length-ending c l g ∙ other-ending c l g (closing-other c (begins "\n" l) e)
+
+length-cr : (c : ℕ) (l : List ℕ) → closes c (begins "\n" l) ≡ false → lineEnd c ≡ true → lineLength (c ∷ l) ≡ suc (lineLength l)
+unfolding begins
+length-cr c [] e g = absurd (true≢false (sym (open-cr c false e g .1)))
+length-cr c (d ∷ l) e g =
+    let cr = open-cr c (is "\n" d) e g in
+    let two : lineLength (c ∷ d ∷ l) ≡ 2 = length-ending c (d ∷ l) g ∙ cr-lf-ending c (d ∷ l) (ap₂ _&&_ (cr .0) (cr .1)) in
+    let one : lineLength (d ∷ l) ≡ 1 = length-closed d l (ap (λ (f : Bool). f || (is "\r" d && not (begins "\n" l))) (cr .1)) in
+    omega arith
+
+pub length-open : (c : ℕ) (l : List ℕ) → closes c (begins "\n" l) ≡ false → lineLength (c ∷ l) ≡ suc (lineLength l)
+length-open c l e = split (lineEnd c) (length-cr c l e) (length-on c l)
+
+-- so the lines behind it are those behind the octet, or behind the line that goes on
+module _ (n : LineNumber) (p : Place) (c : ℕ) (l : List ℕ) where
+  pub behind-closed : closes c (begins "\n" l) ≡ true → linesBehind n p (c ∷ l) ≡ linesFrom (numberAfter n 1) (placeAfter p 1) 0 l
+  unfolding linesFrom
+  behind-closed e = rw (length-closed c l e)
+
+  pub behind-open : closes c (begins "\n" l) ≡ false → linesBehind n p (c ∷ l) ≡ linesBehind n (placeAfter p 1) l
+  unfolding linesFrom
+  behind-open e = rw (length-open c l e)
 
 pub leading-mark-short : (s : List ℕ) → length s < 3 → hasLeadingMark s ≡ false
 unfolding hasLeadingMark

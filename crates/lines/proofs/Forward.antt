@@ -1,70 +1,63 @@
--- The lines of a file, from one to the next: the line at a place is the first of those from there on, and the others begin where it says.
--- Assumes nothing.
-use Prim.Native.Nat.{ℕ, _+_, _-_, _≤_, _<_}
-use mathlib.Core.Path.{_≡_, sym, ap, _∙_}
-use mathlib.Core.List.{List, _∷_}
+-- The lines of a file, from one to the next: where the line behind the one at a place begins. Assumes nothing.
+use Prim.Native.Nat.{ℕ, zero, suc, _+_, _≤_, _<_}
+use mathlib.Core.Path.{_≡_, ap, _∙_}
+use mathlib.Core.List.{List, [], _∷_}
 use native.Mathlib.Omega.{arith}
-use lib.ListN.{length, take, drop, getD, length-drop, drop-of-length-le}
+use lib.ListN.{length, drop, getD, length-drop, drop-of-length-le}
 use lib.Seq.{drop-drop}
-use Rattle.lists.specs.Lists.{from}
-use Rattle.lists.proofs.Scans.{take-upTo, drop-upTo, drop-one}
+use Rattle.lists.specs.Lists.{upTo}
+use Rattle.lists.proofs.Bools.{split}
+use Rattle.lists.proofs.Parts.{upTo-stop, upTo-on}
+use Rattle.lists.proofs.Scans.{upTo-fits, drop-upTo, drop-one}
 use Rattle.protocol.specs.declared.Place.{Place}
 use Rattle.protocol.specs.Octets.{lineEnd}
-use Rattle.protocol.specs.Lines.{placeAt, line, linesFrom, lineText, endingLength, lineLength}
-use Rattle.protocol.proofs.FrontToBack.{line-fits, line-some, lines-next}
-use Rattle.lines.specs.Spans.{lineAt}
-
-module _ (file : List ℕ) (p : ℕ) where
-  -- behind the text of the line at p stands its ending
-  behind-text : drop (p + length (lineText (drop p file))) file ≡ from lineEnd (drop p file)
-  behind-text = sym (drop-drop (length (lineText (drop p file))) p file) ∙ drop-upTo lineEnd (drop p file)
-
-  pub line-length : p + lineLength (drop p file)
-      ≡ p + length (lineText (drop p file)) + endingLength (drop (p + length (lineText (drop p file))) file)
-  unfolding lineLength
-  line-length = omega (arith, ap endingLength behind-text)
-
-  -- a line ends inside its file
-  pub line-inside : p ≤ length file → p + lineLength (drop p file) ≤ length file
-  line-inside h = omega (arith, line-fits (drop p file), length-drop p file)
+use Rattle.protocol.specs.Lines.{placeAt, placeAfter, lineText, endingLength, lineLength}
+use Rattle.protocol.proofs.FrontToBack.{length-on, line-fits, line-some}
+use Rattle.lines.specs.Spans.{textAt, nextAt}
 
 module _ (file : List ℕ) (p : Place) where
-  -- the three places of a line, from its text's end e and its ending's end n
-  pub span-of : (e n : ℕ) → e ≡ p .offset + length (lineText (drop (p .offset) file)) → n ≡ e + endingLength (drop e file)
-      → record { start = p; end = placeAt e; next = placeAt n } ≡ lineAt file p
-  unfolding lineAt
-  span-of e n h k = rw (k, h, line-length file (p .offset))
+  -- behind the text of the line at p, at e, stands its ending
+  module _ (e : Place) (h : e ≡ placeAfter p (length (textAt file p))) where
+    pub next-of : placeAfter e (endingLength (drop (e .offset) file)) ≡ nextAt file p
+    unfolding lineLength
+    next-of =
+        let rest : List ℕ = drop (p .offset) file in
+        let size : ℕ = length (lineText rest) in
+        rw (h, ← drop-drop size (p .offset) file, drop-upTo lineEnd rest) (ap placeAt (omega arith))
 
-  -- and these lie inside the file
-  pub ending-inside : (e : ℕ) → e ≡ p .offset + length (lineText (drop (p .offset) file)) → e ≤ length file
-      → e + endingLength (drop e file) ≤ length file
-  ending-inside e h k =
-      omega (arith, line-inside file (p .offset) (omega arith), line-length file (p .offset), ap (λ (i : ℕ). endingLength (drop i file)) h)
+    -- where no octet is left, none is
+    pub next-end : length file ≤ e .offset → e ≡ nextAt file p
+    unfolding endingLength
+    next-end k = ap placeAt (omega (arith, ap endingLength (drop-of-length-le file k))) ∙ next-of
 
-  -- where no octet is left, no ending is
-  pub no-octet : (e : ℕ) → length file ≤ e → e ≡ e + endingLength (drop e file)
-  unfolding endingLength
-  no-octet e h = omega (arith, ap endingLength (drop-of-length-le file h))
-
-  -- Before the file's end, the lines from p on are the line at p and the lines from `next` on.
-  pub lines-forward : (n : ℕ) → p .offset < length file
-      → linesFrom n (p .offset) (drop (p .offset) file)
-      ≡ line n (p .offset) (take (lineAt file p .end .offset - p .offset) (drop (p .offset) file))
-      ∷ linesFrom (n + 1) (lineAt file p .next .offset) (drop (lineAt file p .next .offset) file)
-  unfolding lineAt
-  lines-forward n h =
-      let rest : List ℕ = drop (p .offset) file in
-      let size : p .offset + length (lineText rest) - p .offset ≡ length (lineText rest) = omega arith in
-      rw (size, take-upTo lineEnd rest) (lines-next file n (p .offset) h)
-
-  -- The next line begins behind p, and inside the file or at its end.
-  pub next-forward : p .offset < length file → p .offset < lineAt file p .next .offset
-  unfolding lineAt
-  next-forward h =
+  -- The next line begins behind p,
+  pub next-further : p .offset < length file → p .offset < nextAt file p .offset
+  next-further h =
       let some-octet : 1 ≤ lineLength (drop (p .offset) file)
       = rw (drop-one file (p .offset) 0 h) (line-some (getD file (p .offset) 0) (drop (p .offset + 1) file)) in
       omega (arith, some-octet)
 
-  pub next-inside : p .offset ≤ length file → lineAt file p .next .offset ≤ length file
-  unfolding lineAt
-  next-inside h = line-inside file (p .offset) h
+  -- and inside the file or at its end.
+  pub next-inside : p .offset ≤ length file → nextAt file p .offset ≤ length file
+  next-inside h = omega (arith, line-fits (drop (p .offset) file), length-drop (p .offset) file)
+
+-- looked for from inside a line, the next one begins at the same place
+mid-line : (l : List ℕ) (q : ℕ) → q ≤ length (lineText l) → q + lineLength (drop q l) ≡ lineLength l
+unfolding upTo
+mid-line l zero h = omega arith
+mid-line [] (suc q) h = absurd (omega arith)
+mid-line (c ∷ l) (suc q) h =
+    split (lineEnd c) (λ e. absurd (let z : suc q ≤ 0 = rw (upTo-stop lineEnd c l e) at h in omega arith))
+    (λ e. let f : suc q ≤ suc (length (lineText l)) = rw (upTo-on lineEnd c l e) at h in omega (arith, length-on c l e, mid-line l q (omega arith)))
+
+pub next-mid : (file : List ℕ) (p : Place) (q : ℕ) → q ≤ length (textAt file p) → nextAt file (placeAfter p q) ≡ nextAt file p
+next-mid file p q h = ap placeAt (rw (← drop-drop q (p .offset) file) (omega (arith, mid-line (drop (p .offset) file) q h)))
+
+-- the text of a line lies inside the file, and in front of the next line
+module _ (file : List ℕ) (p : Place) where
+  pub text-inside : p .offset ≤ length file → p .offset + length (textAt file p) ≤ length file
+  text-inside h = omega (arith, upTo-fits lineEnd (drop (p .offset) file), length-drop (p .offset) file)
+
+  pub text-next : p .offset + length (textAt file p) ≤ nextAt file p .offset
+  unfolding lineLength
+  text-next = omega arith

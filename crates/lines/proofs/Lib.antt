@@ -1,3 +1,4 @@
-mod Endings
+pub mod Endings
 pub mod Forward
+pub mod Passing
 pub mod Skips

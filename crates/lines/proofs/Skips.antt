@@ -1,5 +1,5 @@
 -- Quiet octets and the line endings among them: octet by octet, and from one block to the next. Assumes nothing.
-use Prim.Native.Nat.{ℕ, zero, suc, _+_, _-_, _≤_, _<_}
+use Prim.Native.Nat.{ℕ, zero, suc, _+_, _-_, _*_, _≤_, _<_}
 use mathlib.Core.Path.{_≡_, refl, sym, ap, ap₂, _∙_}
 use mathlib.Core.Bool.{Bool, true, false, _&&_, _||_, not, and-assoc, false≢true}
 use mathlib.Core.List.{List, [], _∷_}
@@ -15,10 +15,12 @@ use Rattle.lists.specs.Lists.{numbersFrom}
 use Rattle.lists.proofs.Bools.{one-at-most, split, and-left, and-right}
 use Rattle.lists.proofs.Scans.{drop-one}
 use Rattle.octets.proofs.Every.{every-octet}
+use Rattle.protocol.specs.declared.LineNumber.{LineNumber}
+use Rattle.protocol.specs.declared.Place.{Place}
+use Rattle.protocol.specs.declared.Position.{Position}
 use Rattle.protocol.specs.Octets.{is, upper, blank, lineEnd, lowerCase}
-use Rattle.protocol.specs.Lines.{closes}
-use Rattle.lines.specs.declared.skip.Passed.{Passed}
-use Rattle.lines.specs.Skips.{entryOctet, quiet, endings, PassedFrom}
+use Rattle.protocol.specs.Lines.{lineNumber, placeAt, numberAfter, placeAfter}
+use Rattle.lines.specs.Skips.{entryOctet, quiet, closes, endings, blocksAt, PassedOver, PassedFrom}
 
 -- without a branch: a letter with the bit 32 set is the lower-case one
 abbrev entryBits : Bool → ℕ → Bool
@@ -78,20 +80,19 @@ endings-seam (c ∷ l) zero m = let e : 0 + m ≡ m = omega arith in rw e (omega
 endings-seam (c ∷ []) (suc n) m = let e : suc n + m ≡ suc (n + m) = omega arith in rw (e, drop-nil {A = ℕ} n)
 endings-seam (c ∷ d ∷ l) (suc n) m = let e : suc n + m ≡ suc (n + m) = omega arith in rw e (omega (arith, endings-seam (d ∷ l) n m))
 
--- m octets more, where those from `from` to i are passed
-module _ (l : List ℕ) (from i m : ℕ) (h : from ≤ i) where
-  more : i + m - from + 1 ≡ suc (i - from + m)
+-- one block more
+module _ (s : List ℕ) (p : Place) (k : ℕ) where
+  abbrev behind : Place
+  behind = placeAfter p (64 * k)
+
+  more : 64 * (k + 1) + 1 ≡ suc (64 * k + 64)
   more = omega arith
 
-  there : drop (i - from) (drop from l) ≡ drop i l
-  there = let e : from + (i - from) ≡ i = omega arith in drop-drop (i - from) from l ∙ rw e
+  quiet-more : (rules : Bool) → quiet rules (blocksAt s p (k + 1)) ≡ (quiet rules (blocksAt s p k) && quiet rules (blocksAt s behind 1))
+  quiet-more rules = rw (more, add-one (64 * k), ← drop-drop (64 * k) (p .offset) s) (quiet-seam rules (drop (p .offset) s) (64 * k) 64)
 
-  pub quiet-more : (rules : Bool)
-      → quiet rules (take (i + m - from + 1) (drop from l)) ≡ (quiet rules (take (i - from + 1) (drop from l)) && quiet rules (take (suc m) (drop i l)))
-  quiet-more rules = rw (more, add-one, ← there) (quiet-seam rules (drop from l) (i - from) m)
-
-  pub endings-more : endings (take (i + m - from + 1) (drop from l)) ≡ endings (take (i - from + 1) (drop from l)) + endings (take (suc m) (drop i l))
-  endings-more = rw (more, add-one, ← there) (endings-seam (drop from l) (i - from) m)
+  endings-more : endings (blocksAt s p (k + 1)) ≡ endings (blocksAt s p k) + endings (blocksAt s behind 1)
+  endings-more = rw (more, add-one (64 * k), ← drop-drop (64 * k) (p .offset) s) (endings-seam (drop (p .offset) s) (64 * k) 64)
 
 -- each octet but the last closes one line at most
 endings-few : (l : List ℕ) → endings l ≤ length l - 1
@@ -113,20 +114,62 @@ quiet-part rules l n k m h e =
     let all : n ≡ k + (m + rest) = omega arith in
     and-left part back (sym (quiet-seam rules (drop k l) m rest) ∙ and-right front _ (sym (quiet-seam rules l k (m + rest)) ∙ rw all at e))
 
--- What is passed over is determined: who passes over fewer blocks has stopped at a block that the other found quiet.
-module _ (rules : Bool) (s : List ℕ) (p : ℕ) where
-  not-fewer : (r q : Passed) → PassedFrom rules s p r → PassedFrom rules s p q → q .octets ≤ r .octets
-  not-fewer r q a b =
-      split (ltb (r .octets) (q .octets))
-      (λ h.
-      let more : r .octets + 64 ≤ q .octets = omega (arith, ltb-true (r .octets) (q .octets) h, a .blocks .whole, b .blocks .whole) in
-      let one : q .octets + 1 ≡ suc (q .octets) = omega arith in
-      let block = quiet-part rules (drop p s) (q .octets) (r .octets) 64 more (rw one at (b .still)) in
-      let stop = a .ended (omega (arith, more, b .inside)) in
-      absurd (false≢true (sym stop ∙ rw (← drop-drop (r .octets) p s) block)))
-      (λ h. ltb-false (r .octets) (q .octets) h)
+module _ (rules : Bool) (s : List ℕ) (p : Position) where
+  -- nothing is passed over yet
+  pub over-none : PassedOver rules s p p
+  over-none =
+      let one : List ℕ = blocksAt s (p .place) 0 in
+      let short : length one ≤ 1 = simp length-take (omega arith) in
+      record {
+        blocks = 0;
+        place = ap placeAt (omega arith);
+        inside = omega arith;
+        still = quiet-one rules one short;
+        number = ap lineNumber (omega (arith, endings-one one short));
+      }
 
-  pub passed-one : (r q : Passed) → PassedFrom rules s p r → PassedFrom rules s p q → r ≡ q
+  -- and then one quiet block more
+  pub over-more : (q : Position) → PassedOver rules s p q → q .place .offset + 65 ≤ length s → quiet rules (blocksAt s (q .place) 1) ≡ true
+      → PassedOver rules s p (record { number = numberAfter (q .number) (endings (blocksAt s (q .place) 1)); place = placeAfter (q .place) 64 })
+  over-more q o h e =
+      let there : q .place .offset ≡ p .place .offset + 64 * o .blocks = ap (λ (x : Place). x .offset) (o .place) in
+      let count = ap (λ (n : LineNumber). n .number) (o .number) in
+      let block = ap (λ (x : Place). endings (blocksAt s x 1)) (o .place) in
+      record {
+        blocks = o .blocks + 1;
+        place = ap placeAt (omega arith);
+        inside = omega arith;
+        still = quiet-more s (p .place) (o .blocks) rules ∙ ap₂ _&&_ (o .still) (rw (o .place) at e);
+        number = ap lineNumber (omega (arith, count, block, endings-more s (p .place) (o .blocks)));
+      }
+
+  -- no more lines than octets
+  pub over-few : (q : Position) → PassedOver rules s p q → q .number .number + p .place .offset ≤ p .number .number + q .place .offset
+  over-few q o =
+      omega (
+        arith,
+        ap (λ (x : Place). x .offset) (o .place),
+        ap (λ (n : LineNumber). n .number) (o .number),
+        endings-fit (64 * o .blocks) (drop (p .place .offset) s),
+      )
+
+  -- What is passed over is determined: who passes over fewer blocks has stopped at a block that the other found quiet.
+  not-fewer : (r q : Position) (a : PassedFrom rules s p r) (b : PassedFrom rules s p q) → b .over .blocks ≤ a .over .blocks
+  not-fewer r q a b =
+      let k = a .over .blocks in
+      let m = b .over .blocks in
+      split (ltb k m)
+      (λ h.
+      let less : k < m = ltb-true k m h in
+      let there : r .place .offset ≡ p .place .offset + 64 * k = ap (λ (x : Place). x .offset) (a .over .place) in
+      let block = quiet-part rules (drop (p .place .offset) s) (64 * m) (64 * k) 64 (omega arith) (rw (add-one (64 * m)) at (b .over .still)) in
+      let stop = a .ended (omega (arith, b .over .inside)) in
+      absurd (false≢true (sym stop ∙ rw (there, ← drop-drop (64 * k) (p .place .offset) s) block)))
+      (λ h. ltb-false k m h)
+
+  pub passed-one : (r q : Position) → PassedFrom rules s p r → PassedFrom rules s p q → r ≡ q
   passed-one r q a b =
-      let e : r .octets ≡ q .octets = omega (arith, not-fewer r q a b, not-fewer q r b a) in
-      ap₂ (λ (n m : ℕ). record { octets = n; lines = m }) e (a .counted ∙ ap (λ (n : ℕ). endings (take (n + 1) (drop p s))) e ∙ sym (b .counted))
+      let e : a .over .blocks ≡ b .over .blocks = omega (arith, not-fewer r q a b, not-fewer q r b a) in
+      ap₂ (λ (n : LineNumber) (x : Place). record { number = n; place = x })
+      (a .over .number ∙ ap (λ (k : ℕ). numberAfter (p .number) (endings (blocksAt s (p .place) k))) e ∙ sym (b .over .number))
+      (a .over .place ∙ ap (λ (k : ℕ). placeAfter (p .place) (64 * k)) e ∙ sym (b .over .place))

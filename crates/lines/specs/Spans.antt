@@ -1,14 +1,14 @@
--- A line of a file, as three places in the file. Assumes nothing.
-use Prim.Native.Nat.{ℕ, _+_}
+-- The line at a place of a file, and where the next one begins. Assumes nothing.
+use Prim.Native.Nat.{ℕ}
 use mathlib.Core.List.{List}
-use lib.ListN.{length, drop}
+use lib.ListN.{drop}
 use Rattle.protocol.specs.declared.Place.{Place}
-use Rattle.protocol.specs.Lines.{placeAt, lineText, lineLength}
-use Rattle.lines.specs.declared.span.Span.{Span}
+use Rattle.protocol.specs.Lines.{placeAfter, lineText, lineLength}
 
--- The line that begins at p: its text ends at the first CR or LF, or at the end of the file; the next line begins behind the ending.
--- proofs/Forward.antt shows that it is the first of protocol's lines from p on, and that the others are those from `next` on.
-unfoldable pub lineAt : List ℕ → Place → Span
-lineAt file p =
-    let rest = drop (p .offset) file in
-    record { start = p; end = placeAt (p .offset + length (lineText rest)); next = placeAt (p .offset + lineLength rest) }
+-- its text
+abbrev pub textAt : List ℕ → Place → List ℕ
+textAt file p = lineText (drop (p .offset) file)
+
+-- the place behind its ending: the end of the file, if no line follows (protocol's lines-next)
+abbrev pub nextAt : List ℕ → Place → Place
+nextAt file p = placeAfter p (lineLength (drop (p .offset) file))

@@ -1,16 +1,13 @@
 // Passing over octets in which no agent or rule line begins.
 
 ghost use mathlib.Core.Path.{_≡_};
-ghost use Prim.Native.Nat.{_≤_};
+ghost use Prim.Native.Nat.{_+_, _≤_};
 ghost use lib.ListN.{length};
 ghost use Rattle.lines.specs.Skips.{entryOctet, quiet, endings, PassedFrom};
 use protocol::FIELDS;
-
-// What was passed over: so many octets, which close so many lines.
-pub struct Passed {
-    pub octets: usize,
-    pub lines: usize,
-}
+use protocol::LineNumber;
+use protocol::Place;
+use protocol::Position;
 
 // An agent line may begin with the octet; with rules, an agent or a rule line. No branch, so that the compiler can look at many octets at a time.
 fn may_begin(x: u8, rules: bool) -> bool
@@ -53,28 +50,28 @@ fn endings(b: &[u8]) -> usize
     n as usize
 }
 
-// Passes over whole blocks of 64 octets, as long as no such line begins behind one of these.
-pub fn pass(s: &[u8], from: usize, rules: bool) -> Passed
-    requires { ⌜ from ≤ length (now s) ⌝ }
-    ensures { λ r. ⌜ PassedFrom rules (now (s .entry)) from r ⌝ }
+// Passes over whole blocks of 64 octets, as long as no such line begins behind one of these, and counts the lines that they close.
+pub fn pass(s: &[u8], at: Position, rules: bool) -> Position
+    requires { ⌜ (at .place .offset ≤ length (now s)) × (at .number .number ≤ at .place .offset + 1) ⌝ }
+    ensures { λ r. ⌜ PassedFrom rules (now (s .entry)) at r ⌝ }
 {
-    let mut i = from;
-    let mut lines = 0;
     if s.len() < 65 {
-        return Passed { octets: 0, lines };
+        return at;
     }
     let last = s.len() - 65;
+    let mut i = at.place.offset;
+    let mut number = at.number.number;
     while i <= last {
         let end = i + 65;
         let b = &s[i..end];
         if !is_quiet(b, rules) {
             break;
         }
-        lines += endings(b);
+        number += endings(b);
         i += 64;
     }
-    Passed {
-        octets: i - from,
-        lines,
+    Position {
+        number: LineNumber { number },
+        place: Place { offset: i },
     }
 }

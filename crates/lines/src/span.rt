@@ -1,20 +1,11 @@
-// The next line of a file from a place on.
+// Where the lines of a file begin.
 
 ghost use mathlib.Core.Path.{_≡_};
 ghost use mathlib.Core.Bool.{_&&_};
-ghost use Prim.Native.Nat.{_+_, _≤_};
-ghost use lib.ListN.{length};
 ghost use Rattle.protocol.specs.Octets.{is};
 ghost use Rattle.protocol.specs.Lines.{hasLeadingMark, skipped, placeAt, endingLength};
-ghost use Rattle.lines.specs.Spans.{lineAt};
+ghost use Rattle.lines.specs.Spans.{nextAt};
 use protocol::Place;
-
-// A line of a file: its first octet, the octet behind its last one, and the octet behind its line ending, where the next line begins.
-pub struct Span {
-    pub start: Place,
-    pub end: Place,
-    pub next: Place,
-}
 
 // Whether a file begins with the leading mark EF BB BF.
 fn has_leading_mark(file: &[u8]) -> bool
@@ -54,7 +45,7 @@ fn is_cr_lf(c: u8, d: u8) -> bool
 }
 
 // The octets of the line ending that a text begins with.
-pub fn ending_length(s: &[u8]) -> usize
+fn ending_length(s: &[u8]) -> usize
     ensures { λ r. ⌜ r ≡ endingLength (now (s .entry)) ⌝ }
 {
     if s.len() == 0 {
@@ -72,37 +63,15 @@ pub fn ending_length(s: &[u8]) -> usize
     1
 }
 
-// The line that begins at `from`. From the file's end on, an empty one that ends there.
-pub fn next_line(file: &[u8], from: Place) -> Span
-    ensures { λ r. ⌜ r ≡ lineAt (now (file .entry)) from ⌝ }
+// Where the line behind the one at `from` begins: the end of the file, if none does.
+pub fn next_place(file: &[u8], from: Place) -> Place
+    ensures { λ r. ⌜ r ≡ nextAt (now (file .entry)) from ⌝ }
 {
-    let start = from.offset;
-    let end = text::line_end(file, start);
-    if file.len() <= end {
-        return Span {
-            start: from,
-            end: Place { offset: end },
-            next: Place { offset: end },
-        };
+    let end = text::line_end(file, from);
+    let stop = end.offset;
+    if file.len() <= stop {
+        return end;
     }
-    let next = end + ending_length(&file[end..]);
-    Span {
-        start: from,
-        end: Place { offset: end },
-        next: Place { offset: next },
-    }
-}
-
-// Where the next line begins, looked for from some octets behind `from` on.
-pub fn next_place(file: &[u8], from: Place, octets: usize) -> Place
-    requires { ⌜ from .offset + octets ≤ length (now file) ⌝ }
-    ensures { λ r. ⌜ r ≡ lineAt (now (file .entry)) (placeAt (from .offset + octets)) .next ⌝ }
-{
-    let span = next_line(
-        file,
-        Place {
-            offset: from.offset + octets,
-        },
-    );
-    span.next
+    let next = stop + ending_length(&file[stop..]);
+    Place { offset: next }
 }

@@ -1,10 +1,9 @@
 -- A list cut at the first element that passes a test, a property that each element has, and sums. Assumes nothing.
-use Prim.Native.Nat.{ℕ, _+_}
+use Prim.Native.Nat.{_+_}
 use mathlib.Core.Path.{_≡_, refl, ap}
 use mathlib.Core.Bool.{Bool, true, false}
 use mathlib.Core.List.{List, [], _∷_, _++_}
-use native.Mathlib.Omega.{arith}
-use Rattle.lists.specs.Lists.{upTo, from, total}
+use Rattle.lists.specs.Lists.{upTo, from}
 use Rattle.lists.specs.Each.{Each}
 use Rattle.lists.proofs.Bools.{split}
 
@@ -37,8 +36,3 @@ module _ {A : Type 0} (P : A → Type 0) where
   pub each-append : (l m : List A) → Each P l → Each P m → Each P (l ++ m)
   each-append [] m h k = k
   each-append (x ∷ l) m h k = (h .0, each-append l m (h .1) k)
-
-pub total-append : {A : Type 0} (f : A → ℕ) (l m : List A) → total f (l ++ m) ≡ total f l + total f m
-unfolding total
-total-append f [] m = omega arith
-total-append f (x ∷ l) m = omega (arith, total-append f l m)

@@ -1,12 +1,12 @@
 -- A list read from an index on, up to the first element that passes a test: what each turn of a search finds. Assumes nothing.
-use Prim.Native.Nat.{ℕ, zero, suc, _+_, _-_, _≤_, _<_}
+use Prim.Native.Nat.{ℕ, suc, _+_, _-_, _≤_, _<_}
 use mathlib.Core.Path.{_≡_, refl, sym, ap, _∙_}
 use mathlib.Core.Bool.{Bool, true, false}
 use mathlib.Core.List.{List, [], _∷_, tail}
 use native.Mathlib.Omega.{arith}
 use native.Mathlib.Numerals.{add-one}
 use lib.ListN.{length, take, drop, getD, length-append, length-drop, drop-of-length-le}
-use lib.Seq.{drop-cons, drop-drop, drop-at, take-all, take-take, take-append-seam}
+use lib.Seq.{drop-cons, drop-drop, drop-at, take-all, take-append-seam}
 use Rattle.lists.specs.Lists.{any, upTo, from}
 use Rattle.lists.proofs.Bools.{split}
 use Rattle.lists.proofs.Parts.{upTo-stop, upTo-on, upTo-from}
@@ -19,13 +19,6 @@ module _ {A : Type 0} where
   -- what is lent of a slice from an index on
   pub rest-of : (k : ℕ) (l : List A) → take (length l - k) (drop k l) ≡ drop k l
   rest-of k l = take-all (length l - k) (drop k l) (simp length-drop (omega arith))
-
-  -- a part of a list's front is that part of the list
-  pub front-part : (l : List A) (m p n : ℕ) → p + n ≤ m → take n (drop p (take m l)) ≡ take n (drop p l)
-  front-part l m zero n h = take-take n m l (omega arith)
-  front-part l zero (suc p) n h = absurd (omega arith)
-  front-part [] (suc m) (suc p) n h = refl
-  front-part (x ∷ l) (suc m) (suc p) n h = front-part l m p n (omega arith)
 
   -- all but the first element
   drop-first : (l : List A) → drop 1 l ≡ tail l

@@ -9,6 +9,7 @@ ghost use Rattle.protocol.specs.Pattern.{rawText, shapeOf, weight};
 ghost use Rattle.protocol.specs.Answers.{atFront};
 ghost use Rattle.normal.specs.Sizes.{sizeWithin};
 ghost use Rattle.normal.specs.Runs.{runOf, runScratch};
+use protocol::Place;
 
 // How many octets there are, where they fit a room.
 struct Size {
@@ -95,7 +96,8 @@ pub fn text_length(pattern: &[u8]) -> usize
         return 0;
     }
     let last = n - 1;
-    text::seek(pattern, last, b'$', b'$', true)
+    let end = text::seek(pattern, Place { offset: last }, b'$', b'$', true);
+    end.offset
 }
 
 // A pattern's weight, measured as for a buffer, with the largest room there is: what is required says that this suffices.

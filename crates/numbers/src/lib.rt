@@ -62,7 +62,7 @@ fn agent_number(agent: Agent) -> usize
 }
 
 // The number of a kind, from 1 on.
-pub fn kind_number(kind: Kind) -> usize
+fn kind_number(kind: Kind) -> usize
     ensures { λ r. ⌜ r ≡ kindNumber kind ⌝ }
 {
     match kind {

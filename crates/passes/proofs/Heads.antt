@@ -1,9 +1,9 @@
--- Whom a line names and what it changes, told by its first octet or by its head. Assumes nothing.
-use Prim.Native.Nat.{ℕ, _+_}
+-- A line that is no agent line, or neither an agent nor a rule line, told by its first octet or by its head. Assumes nothing.
+use Prim.Native.Nat.{ℕ}
 use mathlib.Core.Path.{_≡_, refl, sym, ap, _∙_}
 use mathlib.Core.Bool.{Bool, true, false, _||_, false≢true}
 use mathlib.Core.List.{List, [], _∷_}
-use native.Mathlib.Omega.{arith}
+use mathlib.Core.Option.{none, some}
 use types.Run.{OneOf, miss}
 use denote.Enum.Declared.{tagOf}
 use lib.ListN.{drop}
@@ -12,13 +12,12 @@ use Rattle.lists.specs.Lists.{from}
 use Rattle.lists.proofs.Bools.{split}
 use Rattle.lists.proofs.Parts.{from-stop}
 use Rattle.protocol.specs.declared.Side.{Side}
-use Rattle.protocol.specs.declared.Agent.{Agent}
 use Rattle.protocol.specs.declared.Kind.{Kind}
 use Rattle.protocol.specs.Octets.{is, blank, lowerCase}
-use Rattle.protocol.specs.Text.{begins, solid, octetsAt}
-use Rattle.protocol.specs.Lines.{Line, lineText}
-use Rattle.protocol.specs.Readable.{names}
-use Rattle.protocol.specs.Kinds.{kindOf, placeOf, lengthOf}
+use Rattle.protocol.specs.Text.{begins, solid}
+use Rattle.protocol.specs.Lines.{lineText}
+use Rattle.protocol.specs.Kinds.{kindOf}
+use Rattle.protocol.specs.Entries.{agent, roleOf}
 use Rattle.lines.specs.Skips.{entryOctet}
 use Rattle.fields.specs.declared.Field.{Field}
 use Rattle.fields.specs.declared.Head.{Head}
@@ -26,8 +25,7 @@ use Rattle.fields.specs.Fields.{fieldOf, headOf}
 use Rattle.fields.specs.Names.{nameLength, beginsName, fieldAt}
 use Rattle.fields.proofs.Heads.{head-field, no-agent, field-no, field-known}
 use Rattle.fields.proofs.Field as F
-use Rattle.tally.specs.declared.Tally.{Tally}
-use Rattle.tally.specs.Steps.{kindNames, lineNames, countsAfter, joinsAfter, standingAfter, kindAfter, lineAfter}
+use Rattle.passes.specs.Entries.{roleNames}
 
 -- the field of an agent line
 abbrev pub isAgent : Field → Bool
@@ -41,13 +39,14 @@ unfolding fieldAt
 not-agent-first t h =
     split (beginsName Field.Allow t) (λ a. rw (h, a)) (λ a. split (beginsName Field.Disallow t) (λ d. rw (h, a, d)) (λ d. rw (h, a, d)))
 
-pub no-agent-named : (who text : List ℕ) (k : Kind) → isAgent (fieldOf k) ≡ false → kindNames who text k ≡ false
-unfolding kindNames
-no-agent-named who text Kind.Blank h = refl
-no-agent-named who text Kind.Noise h = refl
-no-agent-named who text Kind.Other h = refl
-no-agent-named who text (Kind.Agent a) h = absurd (false≢true (sym h))
-no-agent-named who text (Kind.Rule side p) h = refl
+-- such a line names nobody
+pub no-agent-named : (who v : List ℕ) (k : Kind) → isAgent (fieldOf k) ≡ false → roleNames who v (roleOf k) ≡ false
+unfolding roleOf
+no-agent-named who v Kind.Blank h = refl
+no-agent-named who v Kind.Noise h = refl
+no-agent-named who v Kind.Other h = refl
+no-agent-named who v (Kind.Agent a) h = absurd (false≢true (sym h))
+no-agent-named who v (Kind.Rule side p) h = refl
 
 -- what no entry begins with
 module _ (rules : Bool) (c : ℕ) (h : entryOctet rules c ≡ false) where
@@ -78,9 +77,8 @@ module _ (c : ℕ) (l : List ℕ) (b : blank c ≡ false) where
   field-first = let s : solid c ≡ true = rw b in rw (from-stop solid c l s) at (field-known (c ∷ l))
 
 -- A line that begins with no space, tab or "u" is no agent line;
-pub first-names : (who : List ℕ) (c : ℕ) (l : List ℕ) → entryOctet false c ≡ false → lineNames who (lineText (c ∷ l)) ≡ false
-unfolding lineNames kindNames
-first-names who c l h = no-agent-named who (lineText (c ∷ l)) (kindOf (lineText (c ∷ l))) (rw (field-first c l (not-blank false c h)) (kept (begins ":" (from solid (drop (nameLength (fieldAt (c ∷ l))) (c ∷ l))))))
+pub first-no-agent : (c : ℕ) (l : List ℕ) → entryOctet false c ≡ false → isAgent (fieldOf (kindOf (lineText (c ∷ l)))) ≡ false
+first-no-agent c l h = rw (field-first c l (not-blank false c h)) (kept (begins ":" (from solid (drop (nameLength (fieldAt (c ∷ l))) (c ∷ l)))))
   where
     other : isAgent (fieldAt (c ∷ l)) ≡ false
     other = not-agent-first (c ∷ l) (no-agent (c ∷ l) (λ e. absurd (false≢true (sym (not-u false c h) ∙ rw e))))
@@ -107,11 +105,19 @@ isOther Field.Allow = false
 isOther Field.Disallow = false
 isOther Field.Other = true
 
+pub idle-role : (k : Kind) → fieldOf k ≡ Field.Other → roleOf k ≡ none
+unfolding roleOf
+idle-role Kind.Blank h = refl
+idle-role Kind.Noise h = refl
+idle-role Kind.Other h = refl
+idle-role (Kind.Agent a) h = absurd (false≢true (ap isOther h))
+idle-role (Kind.Rule Side.Allow p) h = absurd (false≢true (ap isOther h))
+idle-role (Kind.Rule Side.Disallow p) h = absurd (false≢true (ap isOther h))
+
 -- the head of the line at the beginning of a text
-module _ (who rest : List ℕ) (head : Head) (e : head ≡ headOf rest) where
-  pub no-agent-names : OneOf (1 ∷ 2 ∷ 3 ∷ []) (tagOf F.the-type (head .field)) → false ≡ lineNames who (lineText rest)
-  unfolding lineNames
-  no-agent-names h = sym (no-agent-named who (lineText rest) (kindOf (lineText rest)) (go (fieldOf (kindOf (lineText rest))) (rw (head-field rest head e) at h)))
+module _ (rest : List ℕ) (head : Head) (e : head ≡ headOf rest) where
+  pub head-no-agent : OneOf (1 ∷ 2 ∷ 3 ∷ []) (tagOf F.the-type (head .field)) → isAgent (fieldOf (kindOf (lineText rest))) ≡ false
+  head-no-agent h = go (fieldOf (kindOf (lineText rest))) (rw (head-field rest head e) at h)
     where
       go : (f : Field) → OneOf (1 ∷ 2 ∷ 3 ∷ []) (tagOf F.the-type f) → isAgent f ≡ false
       go Field.Agent h = absurd (miss (1 ∷ 2 ∷ 3 ∷ []) 0 tt h)
@@ -119,35 +125,14 @@ module _ (who rest : List ℕ) (head : Head) (e : head ≡ headOf rest) where
       go Field.Disallow h = refl
       go Field.Other h = refl
 
-  pub head-idle : head .field ≡ Field.Other → fieldOf (kindOf (lineText rest)) ≡ Field.Other
-  head-idle h = sym (head-field rest head e) ∙ h
-
-  pub head-agent : head .field ≡ Field.Agent → (a : Agent) × (kindOf (lineText rest) ≡ Kind.Agent a)
+  pub head-agent : head .field ≡ Field.Agent → roleOf (kindOf (lineText rest)) ≡ some agent
+  unfolding roleOf
   head-agent h = go (kindOf (lineText rest)) (sym (head-field rest head e) ∙ h)
     where
-      go : (k : Kind) → fieldOf k ≡ Field.Agent → (a : Agent) × (k ≡ Kind.Agent a)
+      go : (k : Kind) → fieldOf k ≡ Field.Agent → roleOf k ≡ some agent
       go Kind.Blank h = absurd (false≢true (sym (ap isOther h)))
       go Kind.Noise h = absurd (false≢true (sym (ap isOther h)))
       go Kind.Other h = absurd (false≢true (sym (ap isOther h)))
-      go (Kind.Agent a) h = (a, refl)
+      go (Kind.Agent a) h = refl
       go (Kind.Rule Side.Allow p) h = absurd (false≢true (ap isAgent h))
       go (Kind.Rule Side.Disallow p) h = absurd (false≢true (ap isAgent h))
-
-module _ (who text : List ℕ) (kind : Kind) (k : kind ≡ kindOf text) where
-  pub agent-names : (a : Agent) → kindOf text ≡ Kind.Agent a → names (octetsAt text (placeOf kind) (lengthOf kind)) who ≡ lineNames who text
-  unfolding lineNames kindNames
-  agent-names a e = rw (k, e)
-
--- a line that is neither an agent line nor a rule line changes nothing
-idle-kind : (who path : List ℕ) (l : Line) (t : Tally) (k : Kind) → fieldOf k ≡ Field.Other → kindAfter who path l t k ≡ t
-unfolding kindAfter joinsAfter countsAfter standingAfter
-idle-kind who path l t Kind.Blank h = let e : t .unread + 0 ≡ t .unread = omega arith in rw e
-idle-kind who path l t Kind.Noise h = let e : t .unread + 0 ≡ t .unread = omega arith in rw e
-idle-kind who path l t Kind.Other h = let e : t .unread + 0 ≡ t .unread = omega arith in rw e
-idle-kind who path l t (Kind.Agent a) h = absurd (false≢true (ap isOther h))
-idle-kind who path l t (Kind.Rule Side.Allow p) h = absurd (false≢true (ap isOther h))
-idle-kind who path l t (Kind.Rule Side.Disallow p) h = absurd (false≢true (ap isOther h))
-
-pub idle-step : (who path : List ℕ) (l : Line) (t : Tally) → fieldOf (kindOf (l .text)) ≡ Field.Other → lineAfter who path l t ≡ t
-unfolding lineAfter
-idle-step who path l t h = idle-kind who path l t (kindOf (l .text)) h

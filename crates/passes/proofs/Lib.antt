@@ -1,4 +1,5 @@
-pub mod Groups
+pub mod Gathering
+mod Groups
 mod Heads
-pub mod Spans
-pub mod Tallied
+mod Lines
+mod Turns

@@ -13,7 +13,8 @@ use Rattle.lists.proofs.Members.{total-bound}
 use Rattle.lists.proofs.Tests.{same-equal}
 use Rattle.protocol.specs.Text.{octets}
 use Rattle.protocol.specs.Entries.{Entry}
-use Rattle.protocol.specs.Rules.{Rule, applying, unread}
+use Rattle.protocol.specs.declared.Rule.{Rule}
+use Rattle.protocol.specs.Rules.{applying, unread}
 use Rattle.protocol.specs.Pattern.{shapeOf}
 use Rattle.protocol.specs.Walk.{walk}
 use Rattle.protocol.specs.Decision.{patternOf, readableRules, weightOf, walkOf, comparedBy, matching, deciding, decidedBy, isRobotsFile, decidedAmong, answered}

@@ -6,13 +6,15 @@ use mathlib.Core.Bool.{Bool, true, false, _&&_, not, false≢true, true≢false}
 use mathlib.Core.Logic.{_↔_, ⊎-elim}
 use mathlib.Core.List.{List, [], _∷_, List·Memᴰ, List·Memᴰ·head, List·Memᴰ·tail, List·Memᴰ·not-nil, List·Memᴰ·cases-cons, List·Memᴰ·append-cases, List·Memᴰ·eq-of-singleton, Memᴰ·append-left, Memᴰ·append-right}
 use lib.Dec.{eqb}
+use Rattle.lists.specs.Choice.{if_then_else_}
 use borrow.Author.Tests.{eqb-true, eqb-false, eq-eqb, ne-eqb, not-true}
 use Rattle.lists.proofs.Bools.{split, and-left, and-right}
 use Rattle.lists.proofs.Members.{no-member, any-member}
 use Rattle.protocol.specs.Readable.{everyone, names}
 use Rattle.protocol.specs.Entries.{Role, agent, rule, Entry}
-use Rattle.protocol.specs.Rules.{Rule, valueOf, namedBy, entryNames, someGroupNames, groupNames, ruleIn, rulesIn, addressee, applying}
-use Rattle.protocol.specs.Meaning.{GroupNames, ruleOf, RuleFor}
+use Rattle.protocol.specs.declared.Rule.{Rule}
+use Rattle.protocol.specs.Rules.{valueOf, ruleOf, namedBy, entryNames, someGroupNames, groupNames, ruleIn, rulesIn, audience, groupFor, applying}
+use Rattle.protocol.specs.Meaning.{GroupNames, RuleFor}
 
 -- an entry that names who
 module _ (file who : List ℕ) where
@@ -91,38 +93,51 @@ module _ (chosen : ℕ → Bool) (r : Rule) where
       (λ (n : List·Memᴰ e es). Memᴰ·append-right (ruleIn chosen (d .role) d) (known-rulesIn es e n f))
       (List·Memᴰ·cases-cons m)
 
+-- no rule is in a group that isn't chosen
+pub no-rules : (chosen : ℕ → Bool) (es : List Entry) → ((g : ℕ) → chosen g ≡ false) → rulesIn chosen es ≡ []
+no-rules chosen es h =
+    no-member (rulesIn chosen es) (λ r m. let (e, k, f) = rulesIn-known chosen r es m in false≢true (sym (h (e .group)) ∙ f .picked))
+
 module _ (file : List ℕ) (es : List Entry) (crawler : List ℕ) where
   -- "if any group names the crawler, the rules of all such groups, each group once;
   pub applying-named : someGroupNames file es crawler ≡ true → applying file es crawler ≡ rulesIn (groupNames file es crawler) es
-  unfolding applying addressee
+  unfolding applying audience groupFor
   applying-named e = rw e
 
   -- otherwise those of all groups naming "*";
   pub applying-everyone : someGroupNames file es crawler ≡ false → applying file es crawler ≡ rulesIn (groupNames file es everyone) es
-  unfolding applying addressee
-  applying-everyone e = rw e
+  unfolding applying audience groupFor
+  applying-everyone e =
+      split (someGroupNames file es everyone) (λ s. rw (e, s))
+      (λ s. rw (e, s) (no-rules (λ g. false) es (λ g. refl) ∙ sym (no-rules (groupNames file es everyone) es (unnamed s))))
+    where
+      unnamed : someGroupNames file es everyone ≡ false → (g : ℕ) → groupNames file es everyone g ≡ false
+      unnamed s g =
+          split (groupNames file es everyone g)
+          (λ n. absurd (true≢false (sym (some-group-names file es everyone .1 (g, group-names file es everyone g .0 n)) ∙ s)))
+          (λ n. n)
 
   -- otherwise none"
   pub applying-none : someGroupNames file es crawler ≡ false → someGroupNames file es everyone ≡ false → applying file es crawler ≡ []
-  applying-none e h =
-      applying-everyone e
-      ∙ no-member
-      (rulesIn (groupNames file es everyone) es)
-      (λ r m.
-      let (d, k, f) = rulesIn-known (groupNames file es everyone) r es m in
-      let some = some-group-names file es everyone .1 (d .group, group-names file es everyone (d .group) .0 (f .picked)) in
-      true≢false (sym some ∙ h))
+  unfolding applying audience groupFor
+  applying-none e s = rw (e, s) (no-rules (λ g. false) es (λ g. refl))
 
-  -- A rule applies exactly when it is the rule of a rule line whose group names the addressee: the crawler if any group does, otherwise "*".
-  pub applies : (r : Rule) → List·Memᴰ r (applying file es crawler) ↔ RuleFor file es (addressee file es crawler) r
-  unfolding applying
+  -- the name that the groups have whose rules apply
+  abbrev pub addressee : List ℕ
+  addressee = if someGroupNames file es crawler then crawler else everyone
+
+  applying-addressee : applying file es crawler ≡ rulesIn (groupNames file es addressee) es
+  applying-addressee = split (someGroupNames file es crawler) (λ e. rw e (applying-named e)) (λ e. rw e (applying-everyone e))
+
+  -- A rule applies exactly when it is the rule of a rule line whose group names the crawler if any group does, otherwise "*".
+  pub applies : (r : Rule) → List·Memᴰ r (applying file es crawler) ↔ RuleFor file es addressee r
   applies r =
-      let who = addressee file es crawler in
-      let chosen = groupNames file es who in (
+      let chosen = groupNames file es addressee in (
         λ m.
-            let (e, k, f) = rulesIn-known chosen r es m in
-            record { entry = e; among = k; role = f .role; same = f .same; named = group-names file es who (e .group) .0 (f .picked) },
+            let (e, k, f) = rulesIn-known chosen r es (rw applying-addressee at m) in
+            record { entry = e; among = k; role = f .role; same = f .same; named = group-names file es addressee (e .group) .0 (f .picked) },
         λ a.
-            known-rulesIn chosen r es (a .entry) (a .among)
-            (record { role = a .role; same = a .same; picked = group-names file es who (a .entry .group) .1 (a .named) }),
+            rw applying-addressee
+            (known-rulesIn chosen r es (a .entry) (a .among)
+            (record { role = a .role; same = a .same; picked = group-names file es addressee (a .entry .group) .1 (a .named) })),
       )

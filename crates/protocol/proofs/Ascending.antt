@@ -1,38 +1,29 @@
 -- The line numbers of a file's entries, and so of the rules that apply, ascend from 1 on: each entry and each rule stands there once, in the
 -- order of the file. Assumes nothing.
-use Prim.Native.Nat.{ℕ, zero, suc, _+_, _≤_, _<_}
+use Prim.Native.Nat.{ℕ, zero, suc, _+_, _-_, _<_}
 use mathlib.Core.Bool.{Bool, false}
 use mathlib.Core.List.{List, [], _∷_, _++_, map}
 use mathlib.Core.Option.{Option, none, some}
 use native.Mathlib.Omega.{arith}
-use lib.Dec.{ltb}
-use lib.ListN.{length, drop, getD}
-use lib.Seq.{drop-cons}
-use borrow.Author.Tests.{ltb-true, ltb-false}
 use Rattle.lists.specs.Ascending.{Ascending}
 use Rattle.lists.proofs.Bools.{split}
 use Rattle.lists.proofs.Members.{ascending-from}
-use Rattle.protocol.specs.Lines.{Line, linesFrom, skipped, linesOf, lineLength}
+use Rattle.protocol.specs.declared.Place.{Place}
+use Rattle.protocol.specs.Lines.{Line, lineNumber, placeAt, placeAfter, lineLength, linesFrom, skipped, linesOf}
 use Rattle.protocol.specs.Kinds.{kindOf}
 use Rattle.protocol.specs.Entries.{Role, agent, rule, Entry, roleOf, groupAt, ruledAfter, entryOf, entriesFrom, entries}
-use Rattle.protocol.specs.Rules.{groupNames, ruleIn, rulesIn, addressee, applying}
+use Rattle.protocol.specs.Rules.{ruleIn, rulesIn, audience, groupFor, applying}
 use Rattle.protocol.specs.Meaning.{entryLines, ruleLines}
-use Rattle.protocol.proofs.FrontToBack.{line-some, lines-end, lines-next}
 
 -- the numbers of lines
 abbrev numbers : List Line → List ℕ
 numbers ls = map (λ l. l .number .number) ls
 
--- at most k octets are left
-lines-ascend : (file : List ℕ) (k n p : ℕ) → length file ≤ p + k → Ascending n (numbers (linesFrom (n + 1) p (drop p file)))
-lines-ascend file zero n p h = rw (lines-end file (n + 1) p (omega arith)) tt
-lines-ascend file (suc k) n p h =
-    split (ltb p (length file))
-    (λ e.
-    let lt : p < length file = ltb-true p (length file) e in
-    let some-octet : 1 ≤ lineLength (drop p file) = rw (drop-cons file p 0 lt) (line-some (getD file p 0) (drop (suc p) file)) in
-    rw (lines-next file (n + 1) p lt) (omega arith, lines-ascend file k (n + 1) (p + lineLength (drop p file)) (omega arith)))
-    (λ e. rw (lines-end file (n + 1) p (ltb-false p (length file) e)) tt)
+lines-ascend : (m : ℕ) (p : Place) (k : ℕ) (l : List ℕ) → Ascending m (numbers (linesFrom (lineNumber (m + 1)) p k l))
+unfolding linesFrom
+lines-ascend m p k [] = tt
+lines-ascend m p zero (c ∷ l) = (omega arith, lines-ascend (m + 1) (placeAfter p 1) (lineLength (c ∷ l) - 1) l)
+lines-ascend m p (suc k) (c ∷ l) = lines-ascend m (placeAfter p 1) k l
 
 -- the entry of a line, if it has one, in front of entries of greater lines
 entry-ascends : (k g : ℕ) (l : Line) (o : Option Role) (es : List Entry) → k < l .number .number
@@ -67,14 +58,13 @@ rules-ascend k chosen (e ∷ es) a = rule-ascends k chosen (e .role) e es (a .0)
 -- "Line numbers count from 1": the entries of a file, one for each line that has one, in order.
 pub entry-lines-ascend : (file : List ℕ) → Ascending 0 (entryLines (entries file))
 unfolding entries linesOf
-entry-lines-ascend file =
-    entries-ascend 0 0 false (linesOf file) (lines-ascend file (length file) 0 (skipped file) (omega arith))
+entry-lines-ascend file = entries-ascend 0 0 false (linesOf file) (lines-ascend 0 (placeAt 0) (skipped file) file)
 
 -- Where the entries' lines ascend, those of the rules that apply do,
 pub applying-lines-ascend : (file : List ℕ) (es : List Entry) (name : List ℕ) → Ascending 0 (entryLines es)
     → Ascending 0 (ruleLines (applying file es name))
 unfolding applying
-applying-lines-ascend file es name a = rules-ascend 0 (groupNames file es (addressee file es name)) es a
+applying-lines-ascend file es name a = rules-ascend 0 (groupFor file es name (audience file es name)) es a
 
 -- and so they do for a file: "each group once".
 pub rule-lines-ascend : (file name : List ℕ) → Ascending 0 (ruleLines (applying file (entries file) name))

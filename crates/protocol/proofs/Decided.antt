@@ -17,13 +17,14 @@ use Rattle.protocol.specs.declared.Decision.{Decision}
 use Rattle.protocol.specs.Lines.{lineNumber}
 use Rattle.protocol.specs.Readable.{readablePattern}
 use Rattle.protocol.specs.Entries.{Entry}
-use Rattle.protocol.specs.Rules.{Rule, addressee, applying, unread}
+use Rattle.protocol.specs.declared.Rule.{Rule}
+use Rattle.protocol.specs.Rules.{applying, unread}
 use Rattle.protocol.specs.Pattern.{shapeOf}
 use Rattle.protocol.specs.Decision.{patternOf, weightOf, readableRules, allows, walkOf, comparedBy, matching, deciding, decidedBy, isRobotsFile, answered}
 use Rattle.protocol.specs.Meaning.{RuleFor, RuleMatches, Candidate, Closed, Before, heavier, allowing, Tie, Decides, DecidesInOrder, Undecided, NamesRule, NamesNone, Named, byNone, byRule, entryLines, ruleLines}
 use Rattle.protocol.proofs.Inside.{ValueInFile}
 use Rattle.protocol.proofs.Found.{walk-finds}
-use Rattle.protocol.proofs.Applying.{applies}
+use Rattle.protocol.proofs.Applying.{addressee, applies}
 use Rattle.protocol.proofs.Answered.{answered-robots, answered-other}
 use Rattle.protocol.proofs.Ascending.{applying-lines-ascend}
 use Rattle.protocol.proofs.Deciding.{First, Choice, choice, before-rank, tie-rank}
@@ -116,16 +117,16 @@ module _ (file : List ℕ) (es : List Entry) (name path : List ℕ) where
     decider =
         record { applies = rw (d .whole) (Memᴰ·append-right (d .front) (List·Memᴰ·head refl)); matches = d .matches }
 
-    abbrev Standing : Rule → Type 0
-    Standing s = Before file r s ⊎ (Tie file r s × List·Memᴰ s (r ∷ d .back))
+    abbrev Ordered : Rule → Type 0
+    Ordered s = Before file r s ⊎ (Tie file r s × List·Memᴰ s (r ∷ d .back))
 
-    in-order : (s : Rule) → Candidate file es name path s → Standing s
+    in-order : (s : Rule) → Candidate file es name path s → Ordered s
     in-order s c =
         ⊎-elim (λ (m : List·Memᴰ s (d .front)). inl (d .ahead s m (c .matches)))
         (λ (m : List·Memᴰ s (r ∷ d .back)). here m (List·Memᴰ·cases-cons m))
         (List·Memᴰ·append-cases (d .front) (rw (d .whole) at (c .applies)))
       where
-        here : List·Memᴰ s (r ∷ d .back) → (s ≡ r) ⊎ List·Memᴰ s (d .back) → Standing s
+        here : List·Memᴰ s (r ∷ d .back) → (s ≡ r) ⊎ List·Memᴰ s (d .back) → Ordered s
         here m (inl p) = inr (record { weight = ap (weightOf file) p; side = ap (λ (x : Rule). x .side) p }, m)
         here m (inr n) = ⊎-elim (λ (b : Before file r s). inl b) (λ (t : Tie file r s). inr (t, m)) (d .behind s n (c .matches))
 
@@ -133,7 +134,7 @@ module _ (file : List ℕ) (es : List Entry) (name path : List ℕ) where
     decides : Ascending 0 (ruleLines rules) → Decides file es name path r
     decides a = record { other = d .other; candidate = decider; first = λ s c. by-line s (in-order s c) }
       where
-        by-line : (s : Rule) → Standing s → Before file r s ⊎ (Tie file r s × (r .line .number ≤ s .line .number))
+        by-line : (s : Rule) → Ordered s → Before file r s ⊎ (Tie file r s × (r .line .number ≤ s .line .number))
         by-line s (inl b) = inl b
         by-line s (inr (t, m)) =
             inr (
@@ -147,7 +148,7 @@ module _ (file : List ℕ) (es : List Entry) (name path : List ℕ) where
     closes : r .side ≡ Side.Disallow → Closed file es name path
     closes h = record { rule = r; candidate = decider; disallows = h; heavier = λ s c e. outweighs s e (in-order s c) }
       where
-        outweighs : (s : Rule) → s .side ≡ Side.Allow → Standing s → weightOf file s < weightOf file r
+        outweighs : (s : Rule) → s .side ≡ Side.Allow → Ordered s → weightOf file s < weightOf file r
         outweighs s e (inl (heavier l)) = l
         outweighs s e (inl (allowing w p q)) = absurd (differ (sym p ∙ h))
         outweighs s e (inr (t, m)) = absurd (differ (sym e ∙ t .side ∙ h))
@@ -158,7 +159,7 @@ module _ (file : List ℕ) (es : List Entry) (name path : List ℕ) where
         less : weightOf file r < weightOf file (k .rule)
         less = k .heavier r decider h
 
-        outweighed : Standing (k .rule) → ⊥
+        outweighed : Ordered (k .rule) → ⊥
         outweighed (inl (heavier l)) = omega (arith, less)
         outweighed (inl (allowing w p q)) = omega (arith, less)
         outweighed (inr (t, m)) = omega (arith, less, t .weight)

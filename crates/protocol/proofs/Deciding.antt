@@ -15,7 +15,7 @@ use Rattle.lists.proofs.Bools.{split, one-at-most}
 use Rattle.lists.proofs.Parts.{each-append}
 use Rattle.lists.proofs.Members.{each-map, kept-in, kept-out}
 use Rattle.protocol.specs.declared.Side.{Side}
-use Rattle.protocol.specs.Rules.{Rule}
+use Rattle.protocol.specs.declared.Rule.{Rule}
 use Rattle.protocol.specs.Decision.{weightOf, allows, outdoes, chosen, deciding}
 use Rattle.protocol.specs.Meaning.{Before, heavier, allowing, Tie}
 

@@ -1,25 +1,25 @@
 -- Every line and every entry of a file lies inside the file, and holds the file's octets. Assumes nothing.
-use Prim.Native.Nat.{ℕ, zero, suc, _+_, _≤_, _<_}
+use Prim.Native.Nat.{ℕ, zero, suc, _+_, _-_, _≤_}
 use mathlib.Core.Path.{_≡_}
 use mathlib.Core.Bool.{Bool, false}
 use mathlib.Core.List.{List, [], _∷_}
 use mathlib.Core.Option.{Option, none, some}
 use native.Mathlib.Omega.{arith}
-use lib.Dec.{eqb, ltb}
-use lib.ListN.{length, drop, getD}
-use lib.Seq.{drop-cons}
-use borrow.Author.Tests.{ltb-true, ltb-false, eqb-true}
+use lib.Dec.{eqb}
+use lib.ListN.{length}
+use borrow.Author.Tests.{eqb-true}
 use Rattle.lists.specs.Each.{Each}
 use Rattle.lists.specs.Occurs.{Occurs}
 use Rattle.lists.proofs.Bools.{split}
 use Rattle.lists.proofs.Parts.{each-append}
-use Rattle.lists.proofs.Places.{occurs-fits, occurs-front-in, occurs-read-in, occurs-drop, occurs-upTo}
+use Rattle.lists.proofs.Places.{occurs-fits, occurs-in, occurs-front-in, occurs-read-in, occurs-tail, occurs-drop, occurs-upTo}
+use Rattle.protocol.specs.declared.LineNumber.{LineNumber}
+use Rattle.protocol.specs.declared.Place.{Place}
 use Rattle.protocol.specs.Octets.{lineEnd}
 use Rattle.protocol.specs.Text.{octetsAt}
-use Rattle.protocol.specs.Lines.{Line, linesFrom, skipped, linesOf, lineText, lineLength}
+use Rattle.protocol.specs.Lines.{Line, lineNumber, placeAt, numberAfter, placeAfter, lineText, lineLength, linesFrom, skipped, linesOf}
 use Rattle.protocol.specs.Kinds.{kindOf, placeOf, lengthOf}
 use Rattle.protocol.specs.Entries.{Role, Entry, roleOf, groupAt, ruledAfter, placeInFile, entryOf, entriesFrom, entries}
-use Rattle.protocol.proofs.FrontToBack.{line-some, lines-end, lines-next}
 use Rattle.protocol.proofs.Values.{value-inside}
 
 -- the line stands in the file at its place
@@ -30,27 +30,24 @@ InFile file l = Occurs file (l .place .offset) (l .text)
 abbrev pub ValueInFile : List ℕ → Entry → Type 0
 ValueInFile file e = e .place .offset + e .length ≤ length file
 
--- at most k octets are left
-lines-in : (file : List ℕ) (k n p : ℕ) → length file ≤ p + k → Each (InFile file) (linesFrom n p (drop p file))
-lines-in file zero n p h = rw (lines-end file n p (omega arith)) tt
-lines-in file (suc k) n p h =
-    split (ltb p (length file))
-    (λ e.
-    let lt : p < length file = ltb-true p (length file) e in
-    let some-octet : 1 ≤ lineLength (drop p file) = rw (drop-cons file p 0 lt) (line-some (getD file p 0) (drop (suc p) file)) in
-    let here : Occurs file p (lineText (drop p file))
-    = occurs-front-in file (drop p file) (lineText (drop p file)) p (occurs-drop file p (omega arith)) (occurs-upTo lineEnd (drop p file)) in
-    rw (lines-next file n p lt) (here, lines-in file k (n + 1) (p + lineLength (drop p file)) (omega arith)))
-    (λ e. rw (lines-end file n p (ltb-false p (length file) e)) tt)
+-- the octets l stand in the file at p
+lines-in : (file : List ℕ) (n : LineNumber) (p : Place) (k : ℕ) (l : List ℕ) → Occurs file (p .offset) l → Each (InFile file) (linesFrom n p k l)
+unfolding linesFrom
+lines-in file n p k [] o = tt
+lines-in file n p zero (c ∷ l) o = (
+  occurs-front-in file (c ∷ l) (lineText (c ∷ l)) (p .offset) o (occurs-upTo lineEnd (c ∷ l)),
+  lines-in file (numberAfter n 1) (placeAfter p 1) (lineLength (c ∷ l) - 1) l (occurs-in file (c ∷ l) l (p .offset) 1 o (occurs-tail c l)),
+)
+lines-in file n p (suc k) (c ∷ l) o = lines-in file n (placeAfter p 1) k l (occurs-in file (c ∷ l) l (p .offset) 1 o (occurs-tail c l))
 
 -- Every line lies inside the file.
 pub lines-inside : (file : List ℕ) → Each (InFile file) (linesOf file)
 unfolding linesOf
-lines-inside file = lines-in file (length file) 1 (skipped file) (omega arith)
+lines-inside file = lines-in file (lineNumber 1) (placeAt 0) (skipped file) file (occurs-drop file 0 (omega arith))
 
 module _ (file : List ℕ) (l : Line) (h : InFile file l) where
   -- The octets that an entry points at in the file are those of its line's value.
-  pub value-in-file : octetsAt file (placeInFile l (kindOf (l .text))) (lengthOf (kindOf (l .text)))
+  pub value-in-file : octetsAt file (placeInFile (l .place) (kindOf (l .text))) (lengthOf (kindOf (l .text)))
       ≡ octetsAt (l .text) (placeOf (kindOf (l .text))) (lengthOf (kindOf (l .text)))
   unfolding octetsAt placeInFile
   value-in-file =
@@ -60,7 +57,7 @@ module _ (file : List ℕ) (l : Line) (h : InFile file l) where
       (occurs-read-in file (l .text) (l .place .offset) (placeOf (kindOf (l .text)) .offset) (lengthOf (kindOf (l .text))) h
       (value-inside (l .text))))
 
-  place-inside : placeInFile l (kindOf (l .text)) .offset + lengthOf (kindOf (l .text)) ≤ length file
+  place-inside : placeInFile (l .place) (kindOf (l .text)) .offset + lengthOf (kindOf (l .text)) ≤ length file
   unfolding placeInFile
   place-inside =
       split (eqb (lengthOf (kindOf (l .text))) 0) (λ e. rw (eqb-true (lengthOf (kindOf (l .text))) 0 e) (omega arith))

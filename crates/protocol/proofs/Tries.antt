@@ -71,12 +71,6 @@ tried-stood (a ∷ r) (b ∷ t) n h =
     (λ e. ap₂ _∷_ (sym (eqb-true a b e)) (tried-stood r t (n + 1) (rw (tried-same a b r t n e) at h)))
     (λ e. absurd (false≢true (rw (tried-other a b r t n e) at h)))
 
--- only a run of some length fails
-pub tried-fails : (r t : List ℕ) (n : ℕ) → tried r t n .stood ≡ false → 0 < length r
-unfolding tried
-tried-fails [] t n e = absurd (false≢true (sym e))
-tried-fails (a ∷ r) t n e = omega arith
-
 -- a try compares at most the run's octets
 pub tried-more : (r t : List ℕ) (n : ℕ) → n ≤ tried r t n .count
 unfolding tried

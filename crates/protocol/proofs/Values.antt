@@ -16,7 +16,7 @@ use Rattle.protocol.specs.declared.Pattern.{Pattern}
 use Rattle.protocol.specs.declared.Kind.{Kind}
 use Rattle.protocol.specs.Octets.{is, blank}
 use Rattle.protocol.specs.Text.{octets, solid, lead, unlessAtEnd, trimEnd, trim, octetsAt}
-use Rattle.protocol.specs.Lines.{placeAt}
+use Rattle.protocol.specs.Lines.{placeAt, placeAfter}
 use Rattle.protocol.specs.Readable.{isName, readableAgent, readablePattern}
 use Rattle.protocol.specs.Kinds.{agentAt, patternAt, isField, fieldKind, recordKind, restKind, uncommented, kindOf, placeOf, lengthOf}
 
@@ -54,26 +54,26 @@ trimmed l =
     occurs-front-in l s (trimEnd s) (length (upTo solid l)) (occurs-from solid l) front
 
 -- the value v stands in the line at p
-module _ (line v : List ℕ) (p : ℕ) (o : Occurs line p v) where
-  read : (f : List ℕ → Bool) (b : Bool) → f v ≡ b → Read f line (placeAt p) (length v) b
+module _ (line v : List ℕ) (p : Place) (o : Occurs line (p .offset) v) where
+  read : (f : List ℕ → Bool) (b : Bool) → f v ≡ b → Read f line p (length v) b
   unfolding octetsAt
-  read f b e = record { fits = occurs-fits line v p o; told = ap f (occurs-read line v p o) ∙ e }
+  read f b e = record { fits = occurs-fits line v (p .offset) o; told = ap f (occurs-read line v (p .offset) o) ∙ e }
 
-says-agent : (line v : List ℕ) (p : ℕ) → Occurs line p v → Says line (Kind.Agent (agentAt p v))
+says-agent : (line v : List ℕ) (p : Place) → Occurs line (p .offset) v → Says line (Kind.Agent (agentAt p v))
 unfolding agentAt octetsAt readableAgent same isName octets
 says-agent line [] p o = record { fits = omega arith; told = refl }
 says-agent line (c ∷ v) p o =
     split (readableAgent (c ∷ v)) (λ e. rw e (read line (c ∷ v) p o readableAgent true e))
     (λ e. rw e (read line (c ∷ v) p o readableAgent false e))
 
-says-rule : (line v : List ℕ) (p : ℕ) (side : Side) → Occurs line p v → Says line (Kind.Rule side (patternAt p v))
+says-rule : (line v : List ℕ) (p : Place) (side : Side) → Occurs line (p .offset) v → Says line (Kind.Rule side (patternAt p v))
 unfolding patternAt
 says-rule line [] p side o = tt
 says-rule line (c ∷ v) p side o =
     split (readablePattern (c ∷ v)) (λ e. rw e (read line (c ∷ v) p o readablePattern true e))
     (λ e. rw e (read line (c ∷ v) p o readablePattern false e, omega arith))
 
-says-field : (line field v : List ℕ) (p : ℕ) → Occurs line p v → Says line (fieldKind field p v)
+says-field : (line field v : List ℕ) (p : Place) → Occurs line (p .offset) v → Says line (fieldKind field p v)
 unfolding fieldKind
 says-field line field v p o =
     split (isField "user-agent" field) (λ a. rw a (says-agent line v p o))
@@ -81,18 +81,19 @@ says-field line field v p o =
     (λ b. split (isField "disallow" field) (λ c. rw (a, b, c) (says-rule line v p Side.Disallow o)) (λ c. rw (a, b, c) tt)))
 
 -- behind the colon
-says-record : (line l : List ℕ) (p : ℕ) → Occurs line p l → any (is ":") l ≡ true → Says line (recordKind p l)
+says-record : (line l : List ℕ) (p : Place) → Occurs line (p .offset) l → any (is ":") l ≡ true → Says line (recordKind p l)
 unfolding recordKind
 says-record line l p o h =
     let field : List ℕ = upTo (is ":") l in
     let value : List ℕ = tail (from (is ":") l) in
-    let k : p + (length field + 1) + lead value ≡ p + length field + 1 + lead value = omega arith in
-    let behind : Occurs line (p + (length field + 1)) value = occurs-in line l value p (length field + 1) o (occurs-past (is ":") l h) in
-    let there : Occurs line (p + length field + 1 + lead value) (trim value)
-    = rw k at (occurs-in line value (trim value) (p + (length field + 1)) (lead value) behind (trimmed value)) in
-    says-field line (trim field) (trim value) (p + length field + 1 + lead value) there
+    let at : ℕ = length field + 1 in
+    let k : p .offset + at + lead value ≡ p .offset + (at + lead value) = omega arith in
+    let behind : Occurs line (p .offset + at) value = occurs-in line l value (p .offset) at o (occurs-past (is ":") l h) in
+    let there : Occurs line (p .offset + (at + lead value)) (trim value)
+    = rw k at (occurs-in line value (trim value) (p .offset + at) (lead value) behind (trimmed value)) in
+    says-field line (trim field) (trim value) (placeAfter p (at + lead value)) there
 
-says-rest : (line l : List ℕ) (p : ℕ) → Occurs line p l → Says line (restKind p l)
+says-rest : (line l : List ℕ) (p : Place) → Occurs line (p .offset) l → Says line (restKind p l)
 unfolding restKind
 says-rest line l p o =
     split (empty l) (λ a. rw a tt)
@@ -103,7 +104,7 @@ pub kind-says : (line : List ℕ) → Says line (kindOf line)
 unfolding kindOf uncommented
 kind-says line =
     let l : List ℕ = upTo (is "#") line in
-    says-rest line (trim l) (lead l) (occurs-in-front line l (trim l) (lead l) (occurs-upTo (is "#") line) (trimmed l))
+    says-rest line (trim l) (placeAt (lead l)) (occurs-in-front line l (trim l) (lead l) (occurs-upTo (is "#") line) (trimmed l))
 
 -- The value of a line lies inside the line.
 pub value-inside : (line : List ℕ) → placeOf (kindOf line) .offset + lengthOf (kindOf line) ≤ length line

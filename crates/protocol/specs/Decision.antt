@@ -14,7 +14,8 @@ use Rattle.protocol.specs.Text.{octets, octetsAt}
 use Rattle.protocol.specs.Lines.{lineNumber, placeAt}
 use Rattle.protocol.specs.Readable.{readablePattern}
 use Rattle.protocol.specs.Entries.{Entry}
-use Rattle.protocol.specs.Rules.{Rule, applying, unread}
+use Rattle.protocol.specs.declared.Rule.{Rule}
+use Rattle.protocol.specs.Rules.{applying, unread}
 use Rattle.protocol.specs.Pattern.{shapeOf, weight}
 use Rattle.protocol.specs.Walk.{walk}
 

@@ -9,7 +9,7 @@ use Rattle.protocol.specs.declared.LineNumber.{LineNumber}
 use Rattle.protocol.specs.declared.Place.{Place}
 use Rattle.protocol.specs.declared.Side.{Side}
 use Rattle.protocol.specs.declared.Kind.{Kind}
-use Rattle.protocol.specs.Lines.{Line, linesOf, placeAt}
+use Rattle.protocol.specs.Lines.{Line, linesOf, placeAt, placeAfter}
 use Rattle.protocol.specs.Kinds.{kindOf, placeOf, lengthOf}
 
 -- what a line is to its group
@@ -46,14 +46,14 @@ ruledAfter ruled none = ruled
 ruledAfter ruled (some agent) = false
 ruledAfter ruled (some (rule side)) = true
 
--- the place in the file of a line's value
-unfoldable pub placeInFile : Line → Kind → Place
-placeInFile l k = placeAt (if eqb (lengthOf k) 0 then 0 else l .place .offset + placeOf k .offset)
+-- the place in the file of the value of a line of kind k that begins at p
+unfoldable pub placeInFile : Place → Kind → Place
+placeInFile p k = if eqb (lengthOf k) 0 then placeAt 0 else placeAfter p (placeOf k .offset)
 
 unfoldable pub entryOf : ℕ → Line → Kind → Option Role → List Entry
 entryOf group l k none = []
 entryOf group l k (some role) =
-    record { line = l .number; group = group; role = role; place = placeInFile l k; length = lengthOf k } ∷ []
+    record { line = l .number; group = group; role = role; place = placeInFile (l .place) k; length = lengthOf k } ∷ []
 
 unfoldable pub entriesFrom : ℕ → Bool → List Line → List Entry
 entriesFrom above ruled [] = []

@@ -13,28 +13,25 @@ use Rattle.protocol.specs.declared.Pattern.{Pattern}
 use Rattle.protocol.specs.declared.Kind.{Kind}
 use Rattle.protocol.specs.Octets.{is}
 use Rattle.protocol.specs.Text.{octets, sameIgnoringCase, lead, trim}
-use Rattle.protocol.specs.Lines.{placeAt}
+use Rattle.protocol.specs.Lines.{placeAt, placeAfter}
 use Rattle.protocol.specs.Readable.{readableAgent, readablePattern}
 
 -- an agent's value at place p of the line; "0 and 0 if that is empty"
-unfoldable pub agentAt : ℕ → List ℕ → Agent
+unfoldable pub agentAt : Place → List ℕ → Agent
 agentAt p [] = Agent.Unreadable (placeAt 0) 0
-agentAt p (c ∷ v) =
-    if readableAgent (c ∷ v) then Agent.Readable (placeAt p) (length (c ∷ v)) else Agent.Unreadable (placeAt p) (length (c ∷ v))
+agentAt p (c ∷ v) = if readableAgent (c ∷ v) then Agent.Readable p (length (c ∷ v)) else Agent.Unreadable p (length (c ∷ v))
 
 -- a rule's pattern at place p of the line: "its pattern is empty, readable or unreadable"
-unfoldable pub patternAt : ℕ → List ℕ → Pattern
+unfoldable pub patternAt : Place → List ℕ → Pattern
 patternAt p [] = Pattern.Empty
-patternAt p (c ∷ v) =
-    if readablePattern (c ∷ v) then Pattern.Readable (placeAt p) (length (c ∷ v))
-    else Pattern.Unreadable (placeAt p) (length (c ∷ v))
+patternAt p (c ∷ v) = if readablePattern (c ∷ v) then Pattern.Readable p (length (c ∷ v)) else Pattern.Unreadable p (length (c ∷ v))
 
 -- "compared ignoring ASCII case, as any later field name is"
 abbrev pub isField : String → List ℕ → Bool
 isField name field = sameIgnoringCase field (octets name)
 
 -- a field, and its value at place p of the line; "other: any other field, an empty one included"
-unfoldable pub fieldKind : List ℕ → ℕ → List ℕ → Kind
+unfoldable pub fieldKind : List ℕ → Place → List ℕ → Kind
 fieldKind field p value =
     if isField "user-agent" field then Kind.Agent (agentAt p value)
     else if isField "allow" field then Kind.Rule Side.Allow (patternAt p value)
@@ -42,14 +39,14 @@ fieldKind field p value =
     else Kind.Other
 
 -- "the field is what precedes the first colon, the value what follows, each without spaces and tabs at its ends"; l begins at place p
-unfoldable pub recordKind : ℕ → List ℕ → Kind
+unfoldable pub recordKind : Place → List ℕ → Kind
 recordKind p l =
     let field = upTo (is ":") l in
     let value = tail (from (is ":") l) in
-    fieldKind (trim field) (p + length field + 1 + lead value) (trim value)
+    fieldKind (trim field) (placeAfter p (length field + 1 + lead value)) (trim value)
 
 -- what is left of the line, from its place p on. "blank: nothing left; noise: no colon"
-unfoldable pub restKind : ℕ → List ℕ → Kind
+unfoldable pub restKind : Place → List ℕ → Kind
 restKind p l = if empty l then Kind.Blank else if any (is ":") l then recordKind p l else Kind.Noise
 
 -- "everything from the first "#" on is comment and isn't examined"
@@ -58,7 +55,7 @@ uncommented line = upTo (is "#") line
 
 -- "Spaces and tabs at both ends are dropped. Then:"
 unfoldable pub kindOf : List ℕ → Kind
-kindOf line = let l = uncommented line in restKind (lead l) (trim l)
+kindOf line = let l = uncommented line in restKind (placeAt (lead l)) (trim l)
 
 -- "with the place and length in it of an agent's value or a rule's pattern (0 and 0 if that is empty, and for every other kind)"
 abbrev pub placeOf : Kind → Place

@@ -13,7 +13,8 @@ use Rattle.protocol.specs.declared.Decision.{Decision}
 use Rattle.protocol.specs.Lines.{lineNumber, placeAt}
 use Rattle.protocol.specs.Readable.{names, readablePattern}
 use Rattle.protocol.specs.Entries.{agent, rule, Entry, entries}
-use Rattle.protocol.specs.Rules.{Rule, valueOf, applying}
+use Rattle.protocol.specs.declared.Rule.{Rule}
+use Rattle.protocol.specs.Rules.{valueOf, ruleOf, applying}
 use Rattle.protocol.specs.Normal.{normalPath}
 use Rattle.protocol.specs.Pattern.{shapeOf}
 use Rattle.protocol.specs.Matching.{Matches}
@@ -56,10 +57,6 @@ pub record GroupNames (file : List ℕ) (es : List Entry) (who : List ℕ) (g : 
   pub group : entry .group ≡ g
   pub some : g ≡ 0 → ⊥
   pub named : names (valueOf file entry) who ≡ true
-
--- the rule of a rule line of that side
-abbrev pub ruleOf : Side → Entry → Rule
-ruleOf side e = record { line = e .line; side = side; place = e .place; length = e .length }
 
 -- r is the rule of a rule line whose group names who
 pub record RuleFor (file : List ℕ) (es : List Entry) (who : List ℕ) (r : Rule) : Type 0 where

@@ -5,9 +5,9 @@ use mathlib.Core.List.{List, [], _∷_, _++_}
 use lib.Dec.{eqb}
 use Rattle.lists.specs.Choice.{if_then_else_, oneIf}
 use Rattle.lists.specs.Lists.{empty, any, total}
-use Rattle.protocol.specs.declared.LineNumber.{LineNumber}
-use Rattle.protocol.specs.declared.Place.{Place}
 use Rattle.protocol.specs.declared.Side.{Side}
+use Rattle.protocol.specs.declared.Rule.{Rule}
+use Rattle.protocol.specs.declared.Audience.{Audience}
 use Rattle.protocol.specs.Text.{octetsAt}
 use Rattle.protocol.specs.Readable.{everyone, readableAgent, names, readablePattern}
 use Rattle.protocol.specs.Entries.{Role, agent, rule, Entry}
@@ -32,29 +32,39 @@ someGroupNames file es who = any (entryNames file who) es
 unfoldable pub groupNames : List ℕ → List Entry → List ℕ → ℕ → Bool
 groupNames file es who g = any (λ e. eqb (e .group) g && entryNames file who e) es
 
--- a rule line: its line, its side, and the place and length of its pattern in the file
-pub record Rule : Type 0 where
-  pub line : LineNumber
-  pub side : Side
-  pub place : Place
-  pub length : ℕ
+-- the rule of a rule line of that side
+abbrev pub ruleOf : Side → Entry → Rule
+ruleOf side e = record { line = e .line; side = side; place = e .place; length = e .length }
 
 unfoldable pub ruleIn : (ℕ → Bool) → Role → Entry → List Rule
 ruleIn chosen agent e = []
-ruleIn chosen (rule side) e =
-    if chosen (e .group) then record { line = e .line; side = side; place = e .place; length = e .length } ∷ [] else []
+ruleIn chosen (rule side) e = if chosen (e .group) then ruleOf side e ∷ [] else []
 
 -- the rules of the groups that are chosen, in the order of the entries, each once
 unfoldable pub rulesIn : (ℕ → Bool) → List Entry → List Rule
 rulesIn chosen [] = []
 rulesIn chosen (e ∷ es) = ruleIn chosen (e .role) e ++ rulesIn chosen es
 
--- "if any group names the crawler, the rules of all such groups, each group once; otherwise those of all groups naming "*"; otherwise none"
-unfoldable pub addressee : List ℕ → List Entry → List ℕ → List ℕ
-addressee file es crawler = if someGroupNames file es crawler then crawler else everyone
+-- "if any group names the crawler, the rules of all such groups, each group once; otherwise those of all groups naming "*"; otherwise none":
+-- whose groups apply
+unfoldable pub audience : List ℕ → List Entry → List ℕ → Audience
+audience file es crawler =
+    if someGroupNames file es crawler then Audience.Crawler
+    else if someGroupNames file es everyone then Audience.Everyone
+    else Audience.Nobody
+
+-- the group g is one of theirs
+unfoldable pub groupFor : List ℕ → List Entry → List ℕ → Audience → ℕ → Bool
+groupFor file es crawler Audience.Crawler g = groupNames file es crawler g
+groupFor file es crawler Audience.Everyone g = groupNames file es everyone g
+groupFor file es crawler Audience.Nobody g = false
+
+-- and their rules
+abbrev pub rulesFor : List ℕ → List Entry → List ℕ → Audience → List Rule
+rulesFor file es crawler a = rulesIn (groupFor file es crawler a) es
 
 unfoldable pub applying : List ℕ → List Entry → List ℕ → List Rule
-applying file es crawler = rulesIn (groupNames file es (addressee file es crawler)) es
+applying file es crawler = rulesFor file es crawler (audience file es crawler)
 
 -- an agent line that isn't readable, or a rule line whose pattern is neither empty nor readable
 unfoldable pub unreadable : Role → List ℕ → Bool

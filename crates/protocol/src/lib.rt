@@ -10,10 +10,31 @@ pub struct Place {
     pub offset: usize,
 }
 
+// Where a line stands in its file.
+pub struct Position {
+    pub number: LineNumber,
+    pub place: Place,
+}
+
 // The side of a rule, and of a decision.
 pub enum Side {
     Allow,
     Disallow,
+}
+
+// A rule: its line, its side, and the place and length of its pattern in the file.
+pub struct Rule {
+    pub line: LineNumber,
+    pub side: Side,
+    pub place: Place,
+    pub length: usize,
+}
+
+// Whose groups apply: those that name the crawler, those of "*", or nobody's.
+pub enum Audience {
+    Crawler,
+    Everyone,
+    Nobody,
 }
 
 // The value of an agent line, with its place and length: 0 and 0 where it is empty.

@@ -8,6 +8,7 @@ ghost use Rattle.protocol.specs.Octets.{token};
 ghost use Rattle.protocol.specs.Readable.{everyone, isName, readableAgent, characterForms, dueAfter, wellFormed, patternStart, readablePattern};
 ghost use Rattle.protocol.specs.Refusals.{badName};
 ghost use Rattle.readable.specs.Due.{dueRanges, duePast, ordinary, unusual};
+use protocol::Place;
 
 // The octets that a character still lacks: `more` of them, the next from `low` to `high`, those behind it UTF8-tails.
 struct Due {
@@ -80,7 +81,8 @@ fn due_past(due: Due, x: u8) -> Due
 pub fn ordinary_front(s: &[u8]) -> usize
     ensures { λ r. ⌜ r ≡ length (upTo unusual (now (s .entry))) ⌝ }
 {
-    text::seek(s, 0, 0x24, 0x7F, false)
+    let end = text::seek(s, Place { offset: 0 }, 0x24, 0x7F, false);
+    end.offset
 }
 
 // Whole characters only.

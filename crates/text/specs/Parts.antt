@@ -1,9 +1,14 @@
--- Sorts of octets that a text is searched for. Assumes nothing.
+-- Sorts of octets that a text is searched for, and where the first of a sort stands. Assumes nothing.
 use Prim.Native.Nat.{ℕ}
 use mathlib.Core.Bool.{Bool, not}
+use mathlib.Core.List.{List}
 use lib.Dec.{eqb}
+use lib.ListN.{length, drop}
 use Rattle.lists.specs.Choice.{if_then_else_}
+use Rattle.lists.specs.Lists.{upTo}
+use Rattle.protocol.specs.declared.Place.{Place}
 use Rattle.protocol.specs.Octets.{within}
+use Rattle.protocol.specs.Lines.{placeAfter}
 
 -- y is the octet x
 abbrev pub equals : ℕ → ℕ → Bool
@@ -12,3 +17,7 @@ equals x y = eqb y x
 -- x is one of the octets from low to high; where `inside` is false, one of the others
 abbrev pub among : ℕ → ℕ → Bool → ℕ → Bool
 among low high inside x = if inside then within low high x else not (within low high x)
+
+-- the place of the first octet from p on that passes the test, or the text's end
+abbrev pub firstFrom : (ℕ → Bool) → List ℕ → Place → Place
+firstFrom f s p = placeAfter p (length (upTo f (drop (p .offset) s)))

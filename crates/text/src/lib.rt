@@ -3,12 +3,12 @@
 pub mod same; // same.rt: equality ignoring ASCII case
 
 ghost use mathlib.Core.Path.{_≡_};
-ghost use Prim.Native.Nat.{_+_};
-ghost use lib.ListN.{length, drop};
+ghost use lib.ListN.{length};
 ghost use Rattle.lists.specs.Lists.{upTo};
 ghost use Rattle.protocol.specs.Text.{lead, trimEnd};
-ghost use Rattle.protocol.specs.Lines.{lineText};
-ghost use Rattle.text.specs.Parts.{among, equals};
+ghost use Rattle.protocol.specs.Octets.{lineEnd};
+ghost use Rattle.text.specs.Parts.{among, equals, firstFrom};
+use protocol::Place;
 
 // An octet from low to high, or any other.
 fn is_among(x: u8, low: u8, high: u8, inside: bool) -> bool
@@ -40,58 +40,63 @@ fn front_of_block(s: &[u8], low: u8, high: u8, inside: bool) -> usize
 }
 
 // A place from which the search goes on: behind whole blocks without an octet of that sort, or at the first one.
-fn past_blocks(s: &[u8], from: usize, low: u8, high: u8, inside: bool) -> usize
-    ensures { λ r. ⌜ r + length (upTo (among low high inside) (drop r (now (s .entry)))) ≡ from + length (upTo (among low high inside) (drop from (now (s .entry)))) ⌝ }
+fn past_blocks(s: &[u8], from: Place, low: u8, high: u8, inside: bool) -> Place
+    ensures { λ r. ⌜ firstFrom (among low high inside) (now (s .entry)) r ≡ firstFrom (among low high inside) (now (s .entry)) from ⌝ }
 {
     if s.len() < 64 {
         return from;
     }
     let last = s.len() - 64;
-    let mut i = from;
+    let mut i = from.offset;
     while i <= last {
         let end = i + 64;
         let front = front_of_block(&s[i..end], low, high, inside);
         if front < 64 {
-            return i + front;
+            let found = i + front;
+            return Place { offset: found };
         }
         i = end;
     }
-    i
+    Place { offset: i }
 }
 
 // The place of the first octet of that sort from `from` on, or the text's end.
-pub fn seek(s: &[u8], from: usize, low: u8, high: u8, inside: bool) -> usize
-    ensures { λ r. ⌜ r ≡ from + length (upTo (among low high inside) (drop from (now (s .entry)))) ⌝ }
+pub fn seek(s: &[u8], from: Place, low: u8, high: u8, inside: bool) -> Place
+    ensures { λ r. ⌜ r ≡ firstFrom (among low high inside) (now (s .entry)) from ⌝ }
 {
-    let mut i = past_blocks(s, from, low, high, inside);
+    let start = past_blocks(s, from, low, high, inside);
+    let mut i = start.offset;
     while i < s.len() {
         if is_among(s[i], low, high, inside) {
-            return i;
+            return Place { offset: i };
         }
         i += 1;
     }
-    i
+    Place { offset: i }
 }
 
 // The octets in front of the first x: all of them where there is none.
 pub fn find(s: &[u8], x: u8) -> usize
     ensures { λ r. ⌜ r ≡ length (upTo (equals x) (now (s .entry))) ⌝ }
 {
-    seek(s, 0, x, x, true)
+    let place = seek(s, Place { offset: 0 }, x, x, true);
+    place.offset
 }
 
 // The place of the first CR or LF from `from` on, or the text's end.
-pub fn line_end(s: &[u8], from: usize) -> usize
-    ensures { λ r. ⌜ r ≡ from + length (lineText (drop from (now (s .entry)))) ⌝ }
+pub fn line_end(s: &[u8], from: Place) -> Place
+    ensures { λ r. ⌜ r ≡ firstFrom lineEnd (now (s .entry)) from ⌝ }
 {
-    let mut i = from;
+    let mut i = from.offset;
     while i < s.len() {
         if octets::is_line_end(s[i]) {
-            return i;
+            return Place { offset: i };
         }
-        i = seek(s, i + 1, 0, b'\r', true);
+        let on = i + 1;
+        let low = seek(s, Place { offset: on }, 0, b'\r', true);
+        i = low.offset;
     }
-    i
+    Place { offset: i }
 }
 
 // The number of spaces and tabs at the front.

@@ -13,6 +13,7 @@ ghost use Rattle.normal.specs.Runs.{normalRun, runScratch};
 ghost use Rattle.walk.specs.Texts.{walkText, scratchText, walkScratch, literal, weighScratch};
 ghost use Rattle.walk.specs.Weights.{CountFits, weighedWalk, weighed};
 use normal::Written;
+use protocol::Place;
 use protocol::Walked;
 
 // A pattern's weight where it matches, 0 where it doesn't, and the pairs compared.
@@ -113,7 +114,8 @@ fn weighed_walk(w: Walked, weight: usize) -> Weighed
 fn is_literal(pattern: &[u8]) -> bool
     ensures { λ r. ⌜ r ≡ all literal (now (pattern .entry)) ⌝ }
 {
-    text::seek(pattern, 0, 0x2B, 0x7E, false) == pattern.len()
+    let end = text::seek(pattern, Place { offset: 0 }, 0x2B, 0x7E, false);
+    end.offset == pattern.len()
 }
 
 // Such a pattern is one run as it stands, and weighs its octets.

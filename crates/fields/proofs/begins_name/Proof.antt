@@ -1,11 +1,12 @@
 -- `fields::begins_name` meets its contract. Assumes nothing.
-use Prim.Native.Nat.{_≤_, _<_}
-use mathlib.Core.Path.{sym, _∙_}
+use Prim.Native.Nat.{ℕ, _≤_, _<_}
+use mathlib.Core.Path.{_≡_, sym, _∙_}
 use mathlib.Core.List.{[]}
 use native.Mathlib.Omega.{arith}
-use lib.ListN.{length, getD}
+use lib.ListN.{length, take, getD}
 use lib.Seq.{length-take-le}
-use Rattle.protocol.specs.Text.{octets}
+use Rattle.protocol.specs.Text.{octets, sameIgnoringCase}
+use Rattle.fields.specs.Names.{beginsName}
 use Rattle.fields.proofs.Rows.{fields, row-most, name-most, row-size, begins-row}
 use Rattle.fields.proofs.begins_name.Statement.{statement}
 use Rattle.fields.proofs.begins_name.Tie as tie
@@ -18,11 +19,23 @@ name-length-requires c κs = tt
 
 -- the row is one of the table's, and the name no longer than a row
 module _ (c : tie.After-name-length) where
-  row-in : c .before .row-of .result < 3
-  row-in = omega (arith, c .before .row-of .ensures, row-most (c .before .before .before .args .field))
+  abbrev start : tie.Start
+  start = c .before .before .before
 
-  name-in : c .name-length .result ≤ length (getD fields (c .before .row-of .result) [])
-  name-in = omega (arith, c .name-length .ensures, name-most (c .before .before .before .args .field), row-size (c .before .row-of .result) row-in)
+  abbrev row : ℕ
+  row = c .before .row-of .result
+
+  abbrev size : ℕ
+  size = c .name-length .result
+
+  row-in : row < 3
+  row-in = omega (arith, c .before .row-of .ensures, row-most (start .args .field))
+
+  name-in : size ≤ length (getD fields row [])
+  name-in = omega (arith, c .name-length .ensures, name-most (start .args .field), row-size row row-in)
+
+  named : sameIgnoringCase (take (length (take size (getD fields row []))) (start .args .s .now)) (take size (getD fields row [])) ≡ beginsName (start .args .field) (start .args .s .now)
+  named = begins-row (start .args .s .now) (start .args .field) row size (c .before .row-of .ensures) (c .name-length .ensures)
 
 mul-name : tie.Need-mul-name
 mul-name c = omega (arith, row-in c)
@@ -37,19 +50,14 @@ array-share-prefix-name c = name-in (c .before)
 slice-aggregate-begins-with : tie.Need-slice-aggregate-begins-with
 unfolding octets
 slice-aggregate-begins-with c =
-    let n = c .before .before in
-    sym (length-take-le (n .name-length .result) (getD fields (n .before .row-of .result) []) (name-in n))
+    let n = c .before .before in sym (length-take-le (size n) (getD fields (row n) []) (name-in n))
 
 begins-with-requires : tie.Need-begins-with-requires
 begins-with-requires c κs = tt
 
 returns : tie.Need-returns
 unfolding octets
-returns c =
-    let a = c .before .before .before .before .before .before .args in
-    let n = c .before .before .before .name-length in
-    let row = c .before .before .before .before .row-of in
-    c .begins-with .ensures ∙ begins-row (a .s .now) (a .field) (row .result) (n .result) (row .ensures) (n .ensures)
+returns c = c .begins-with .ensures ∙ named (c .before .before .before)
 
 pub begins-name-spec : {M : Type 1} → statement M
 begins-name-spec =

@@ -8,6 +8,7 @@ use lib.ListN.{length, take, drop}
 use borrow.Author.Needs.{needs}
 use borrow.Author.Tests.{not-true, not-false}
 use Rattle.protocol.specs.Text.{begins, lead}
+use Rattle.protocol.specs.Lines.{placeAt}
 use Rattle.text.proofs.Trims.{trim-fits}
 use Rattle.fields.specs.declared.Field.{Field}
 use Rattle.fields.specs.Fields.{headOf}
@@ -19,11 +20,22 @@ use Rattle.fields.proofs.head_of.Tie as tie
 lead-requires : tie.Need-lead-requires
 lead-requires c κs = tt
 
+-- the text, and where the field's name begins
+module _ (c : tie.After-lead) where
+  abbrev text : List ℕ
+  text = c .before .before .args .r .now
+
+  abbrev start : ℕ
+  start = c .lead .result
+
+  start-in : start ≤ length text
+  start-in = omega (arith, c .lead .ensures, trim-fits text)
+
 sub-field-at : tie.Need-sub-field-at
-sub-field-at c = omega (arith, c .lead .ensures, trim-fits (c .before .before .args .r .now))
+sub-field-at c = start-in c
 
 part-field-at-start : tie.Need-part-field-at-start
-part-field-at-start c = omega (arith, c .lead .ensures, trim-fits (c .before .before .args .r .now))
+part-field-at-start c = start-in c
 
 part-field-at-end : tie.Need-part-field-at-end
 part-field-at-end c = search needs
@@ -37,30 +49,46 @@ enum-told c = search needs
 no-head-requires : tie.Need-no-head-requires
 no-head-requires c κs = tt
 
+-- the field of that name
+module _ (c : tie.After-field-at) where
+  abbrev led : tie.After-lead
+  led = c .before .before
+
+  abbrev field : Field
+  field = c .field-at .result
+
+  other : field ≡ Field.Other → record { field = Field.Other; value = placeAt 0 } ≡ headOf (text led)
+  other = head-other (text led) (start led) field (led .lead .ensures) (c .field-at .ensures)
+
 returns : tie.Need-returns
-returns c =
-    let l = c .before .before .before .before .before .lead in
-    let f = c .before .before .before .field-at in
-    c .no-head .ensures ∙ head-other (c .before .before .before .before .before .before .before .args .r .now) (l .result) (f .result) (l .ensures) (f .ensures) (c .before .enum-told .given .1)
+returns c = c .no-head .ensures ∙ other (c .before .before .before) (c .before .enum-told .given .1)
 
 name-length-requires : tie.Need-name-length-requires
 name-length-requires c κs = tt
 
--- the name lies inside the text
-name-in : (c : tie.After-name-length) → c .before .before .before .before .lead .result + c .name-length .result ≤ length (c .before .before .before .before .before .before .args .r .now)
-name-in c =
-    let l = c .before .before .before .before .lead in
-    let f = c .before .before .field-at in
-    omega (arith, c .name-length .ensures, name-inside (c .before .before .before .before .before .before .args .r .now) (l .result) (f .result) (l .ensures) (f .ensures))
+-- where its name ends
+module _ (c : tie.After-name-length) where
+  abbrev named : tie.After-field-at
+  named = c .before .before
+
+  abbrev after : ℕ
+  after = start (led named) + c .name-length .result
+
+  after-known : after ≡ start (led named) + nameLength (field named)
+  after-known = ap (λ (n : ℕ). start (led named) + n) (c .name-length .ensures)
+
+  after-in : after ≤ length (text (led named))
+  after-in =
+      omega (arith, after-known, name-inside (text (led named)) (start (led named)) (field named) (led named .lead .ensures) (named .field-at .ensures))
 
 add-after : tie.Need-add-after
-add-after c = omega (arith, name-in c)
+add-after c = omega (arith, after-in c)
 
 sub-lead : tie.Need-sub-lead
-sub-lead c = omega (arith, name-in c)
+sub-lead c = after-in c
 
 part-lead-start : tie.Need-part-lead-start
-part-lead-start c = omega (arith, name-in c)
+part-lead-start c = after-in c
 
 part-lead-end : tie.Need-part-lead-end
 part-lead-end c = search needs
@@ -68,34 +96,35 @@ part-lead-end c = search needs
 lead-requires-2 : tie.Need-lead-requires-2
 lead-requires-2 c κs = tt
 
--- the places that are found
+-- where the colon has to stand
 module _ (c : tie.After-lead2) where
-  abbrev text : List ℕ
-  text = c .before .before .before .before .before .before .before .before .args .r .now
+  abbrev sized : tie.After-name-length
+  sized = c .before .before
 
-  abbrev start : ℕ
-  start = c .before .before .before .before .before .before .lead .result
+  abbrev known : tie.After-field-at
+  known = named sized
 
-  abbrev field : Field
-  field = c .before .before .before .before .field-at .result
-
-  abbrev after : ℕ
-  after = start + c .before .before .name-length .result
+  abbrev line : List ℕ
+  line = text (led known)
 
   abbrev colon : ℕ
-  colon = after + c .lead2 .result
+  colon = after sized + c .lead2 .result
 
-  after-known : after ≡ start + nameLength field
-  after-known = ap (λ (n : ℕ). start + n) (c .before .before .name-length .ensures)
+  colon-known : colon ≡ after sized + lead (take (length line - after sized) (drop (after sized) line))
+  colon-known = ap (λ (n : ℕ). after sized + n) (c .lead2 .ensures)
 
-  colon-known : colon ≡ after + lead (take (length text - after) (drop after text))
-  colon-known = ap (λ (n : ℕ). after + n) (c .lead2 .ensures)
+  colon-in : colon ≤ length line
+  colon-in =
+      colon-inside line (start (led known)) (field known) (led known .lead .ensures) (known .field-at .ensures) (after sized) colon (after-known sized) colon-known
 
-  colon-in : colon ≤ length text
-  colon-in = colon-inside text start field (c .before .before .before .before .before .before .lead .ensures) (c .before .before .before .before .field-at .ensures) after colon after-known colon-known
+  none : begins ":" (drop colon line) ≡ false → record { field = Field.Other; value = placeAt 0 } ≡ headOf line
+  none = head-none line (start (led known)) (field known) (led known .lead .ensures) (known .field-at .ensures) (after sized) colon (after-known sized) colon-known
 
-  none : begins ":" (drop colon text) ≡ false → record { field = Field.Other; value = 0 } ≡ headOf text
-  none = head-none text start field (c .before .before .before .before .before .before .lead .ensures) (c .before .before .before .before .field-at .ensures) after colon after-known colon-known
+  some : (value : ℕ) → begins ":" (drop colon line) ≡ true → value ≡ colon + 1 + lead (take (length line - (colon + 1)) (drop (colon + 1) line))
+      → record { field = field known; value = placeAt value } ≡ headOf line
+  some value e v =
+      head-some line (start (led known)) (field known) (led known .lead .ensures) (known .field-at .ensures) (after sized) colon (after-known sized) colon-known
+      value e (sized .before .match .keys2) v
 
 add-colon : tie.Need-add-colon
 add-colon c = omega (arith, colon-in c)
@@ -106,18 +135,29 @@ colon-at-requires c κs = tt
 no-head-requires-2 : tie.Need-no-head-requires-2
 no-head-requires-2 c κs = tt
 
+-- whether it does
+module _ (c : tie.After-colon-at) where
+  abbrev sought : tie.After-lead2
+  sought = c .before
+
+  told : begins ":" (drop (colon sought) (line sought)) ≡ c .colon-at .result
+  told = sym (c .colon-at .ensures)
+
 returns-2 : tie.Need-returns-2
 returns-2 c =
-    c .no-head2 .ensures
-    ∙ none (c .before .before .before) (sym (c .before .before .colon-at .ensures) ∙ not-true (c .before .before .colon-at .result) (c .before .if1 .taken))
+    let found = c .before .before in
+    c .no-head2 .ensures ∙ none (sought found) (told found ∙ not-true (found .colon-at .result) (c .before .if1 .taken))
 
--- a colon is there
+-- it does
 module _ (c : tie.Else1) where
-  there : begins ":" (drop (colon (c .before .before)) (text (c .before .before))) ≡ true
-  there = sym (c .before .colon-at .ensures) ∙ not-false (c .before .colon-at .result) (c .if1 .left)
+  abbrev here : tie.After-lead2
+  here = sought (c .before)
 
-  below : colon (c .before .before) < length (text (c .before .before))
-  below = colon-below (text (c .before .before)) (colon (c .before .before)) there
+  there : begins ":" (drop (colon here) (line here)) ≡ true
+  there = told (c .before) ∙ not-false (c .before .colon-at .result) (c .if1 .left)
+
+  below : colon here < length (line here)
+  below = colon-below (line here) (colon here) there
 
 add-behind : tie.Need-add-behind
 add-behind c = omega (arith, below c)
@@ -136,14 +176,13 @@ lead-requires-3 c κs = tt
 
 add-value : tie.Need-add-value
 add-value c =
-    let s = c .before .before .before .before in
-    omega (arith, c .lead3 .ensures, lead-inside (text s) (colon s + 1) (omega (arith, below (c .before .before))))
+    let e = c .before .before in
+    omega (arith, c .lead3 .ensures, lead-inside (line (here e)) (colon (here e) + 1) (omega (arith, below e)))
 
 returns-3 : tie.Need-returns-3
 returns-3 c =
-    let s = c .before .before .before .before in
-    head-some (text s) (start s) (field s) (s .before .before .before .before .before .before .lead .ensures) (s .before .before .before .before .field-at .ensures) (after s) (colon s) (after-known s) (colon-known s)
-    (colon s + 1 + c .lead3 .result) (there (c .before .before)) (s .before .before .before .match .keys2) (ap (λ (n : ℕ). colon s + 1 + n) (c .lead3 .ensures))
+    let e = c .before .before in
+    some (here e) (colon (here e) + 1 + c .lead3 .result) (there e) (ap (λ (n : ℕ). colon (here e) + 1 + n) (c .lead3 .ensures))
 
 pub head-of-spec : {M : Type 1} → statement M
 head-of-spec =

@@ -1,7 +1,8 @@
 -- `normal::text_length` meets its contract. Assumes nothing.
-use mathlib.Core.Path.{_∙_}
+use mathlib.Core.Path.{ap, _∙_}
 use native.Mathlib.Omega.{arith}
 use borrow.Author.Needs.{needs}
+use Rattle.protocol.specs.declared.Place.{Place}
 use Rattle.protocol.proofs.Sizes.{end-mark-length}
 use Rattle.normal.proofs.EndMarks.{end-mark-sought}
 use Rattle.normal.proofs.text_length.Statement.{statement}
@@ -17,7 +18,7 @@ seek-requires : tie.Need-seek-requires
 seek-requires c κs = search needs
 
 returns-2 : tie.Need-returns-2
-returns-2 c = c .seek .ensures ∙ end-mark-sought (c .before .before .before .args .pattern .now) (omega arith)
+returns-2 c = ap (λ (p : Place). p .offset) (c .seek .ensures) ∙ end-mark-sought (c .before .before .before .args .pattern .now) (omega arith)
 
 pub text-length-spec : {M : Type 1} → statement M
 text-length-spec = tie.close (tie.spec returns sub-last seek-requires returns-2)

@@ -1,6 +1,6 @@
 -- `text::front_of_block` meets its contract: behind the place that is sought, `first` is that place, and up to it, 64. Assumes nothing.
 use Prim.Native.Nat.{_-_, _≤_, min}
-use mathlib.Core.Path.{_≡_, sym, _∙_}
+use mathlib.Core.Path.{sym, _∙_}
 use mathlib.Core.Logic.{⊎-elim}
 use native.Mathlib.Omega.{arith}
 use lib.ListN.{length}

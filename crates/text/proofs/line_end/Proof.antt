@@ -1,22 +1,25 @@
 -- `text::line_end` meets its contract: what is left to search gives the whole search's outcome. Assumes nothing.
-use Prim.Native.Nat.{_+_, _-_}
-use mathlib.Core.Path.{_≡_, refl, sym, _∙_}
+use Prim.Native.Nat.{ℕ, _+_, _-_}
+use mathlib.Core.Path.{_≡_, refl, sym, ap, _∙_}
 use mathlib.Core.Bool.{true}
+use mathlib.Core.List.{List}
 use native.Mathlib.Omega.{arith}
-use lib.ListN.{length, drop}
+use lib.ListN.{length, drop, getD}
 use Rattle.lists.specs.Lists.{upTo}
 use Rattle.lists.proofs.Scans.{scan-none, scan-stop, scan-on}
+use Rattle.protocol.specs.declared.Place.{Place}
 use Rattle.protocol.specs.Octets.{lineEnd}
+use Rattle.protocol.specs.Lines.{placeAt}
 use Rattle.text.specs.Parts.{among}
 use Rattle.text.proofs.Seeks.{end-low, upTo-wider, scan-from}
 use Rattle.text.proofs.line_end.Statement.{statement}
 use Rattle.text.proofs.line_end.Tie as tie
 
 abbrev Inv-loop : tie.InvT-loop
-Inv-loop s from i₀ i = i + length (upTo lineEnd (drop i s)) ≡ from + length (upTo lineEnd (drop from s))
+Inv-loop s i₀ i = i + length (upTo lineEnd (drop i s)) ≡ i₀ + length (upTo lineEnd (drop i₀ s))
 
 abbrev μ-loop : tie.MeasureT-loop
-μ-loop s from i₀ i = length s - i
+μ-loop s i₀ i = length s - i
 
 loop-holds : tie.Need-loop-holds Inv-loop μ-loop
 loop-holds c = refl
@@ -27,35 +30,55 @@ shared-slice-read-is-line-end c = omega arith
 is-line-end-requires : tie.Need-is-line-end-requires Inv-loop μ-loop
 is-line-end-requires c κs = tt
 
+-- the text, and where the search has come to
+module _ (l : tie.At-loop Inv-loop μ-loop) where
+  abbrev text : List ℕ
+  text = l .before .before .args .s .now
+
+  abbrev here : ℕ
+  here = l .loop .i
+
+-- the octet there, looked at
+module _ (c : tie.After-is-line-end Inv-loop μ-loop) where
+  abbrev loop : tie.At-loop Inv-loop μ-loop
+  loop = c .before .before .before
+
+  told : lineEnd (getD (text loop) (here loop) 0) ≡ c .is-line-end .result
+  told = sym (c .is-line-end .ensures)
+
 returns : tie.Need-returns Inv-loop μ-loop
 returns c =
-    let l = c .before .before .before .before in
-    let s = l .before .before .args .s .now in
-    omega (arith, l .loop .inv, scan-stop lineEnd s (l .loop .i) 0 (omega arith) (sym (c .before .is-line-end .ensures) ∙ c .if1 .taken))
+    let l = loop (c .before) in
+    ap placeAt (omega (arith, l .loop .inv, scan-stop lineEnd (text l) (here l) 0 (omega arith) (told (c .before) ∙ c .if1 .taken)))
 
-add-seek : tie.Need-add-seek Inv-loop μ-loop
-add-seek c = omega arith
+add-on : tie.Need-add-on Inv-loop μ-loop
+add-on c = omega arith
 
 seek-requires : tie.Need-seek-requires Inv-loop μ-loop
 seek-requires c κs = tt
 
+-- the place from which it goes on
+found : (c : tie.After-seek Inv-loop μ-loop) → c .seek .result .offset ≡ here (loop (c .before .before)) + 1 + length (upTo (among 0 13 true) (drop (here (loop (c .before .before)) + 1) (text (loop (c .before .before)))))
+found c = ap (λ (p : Place). p .offset) (c .seek .ensures)
+
 loop-less : tie.Need-loop-less Inv-loop μ-loop
-loop-less c = omega (arith, c .seek .ensures)
+loop-less c = omega (arith, found c)
 
 loop-again : tie.Need-loop-again Inv-loop μ-loop
 loop-again c =
-    let p = c .before in
-    let l = p .before .before .before .before in
-    let s = l .before .before .args .s .now in
-    let i = l .loop .i in
-    let on = scan-on lineEnd s i 0 (omega arith) (sym (p .before .is-line-end .ensures) ∙ p .if1 .left) in
-    omega (arith, l .loop .inv, on, scan-from lineEnd s (i + 1) _ (c .seek .result) (upTo-wider lineEnd (among 0 13 true) end-low (drop (i + 1) s)) (c .seek .ensures))
+    let l = loop (c .before .before) in
+    let next = here l + 1 in
+    let on = scan-on lineEnd (text l) (here l) 0 (omega arith) (told (c .before .before) ∙ c .before .if1 .left) in
+    omega (
+      arith,
+      l .loop .inv,
+      on,
+      scan-from lineEnd (text l) next _ (c .seek .result .offset) (upTo-wider lineEnd (among 0 13 true) end-low (drop next (text l))) (found c),
+    )
 
 returns-2 : tie.Need-returns-2 Inv-loop μ-loop
 returns-2 c =
-    let l = c .before in
-    let s = l .before .before .args .s .now in
-    omega (arith, l .loop .inv, scan-none lineEnd s (l .loop .i) 0 (omega arith))
+    ap placeAt (omega (arith, c .before .loop .inv, scan-none lineEnd (text (c .before)) (here (c .before)) 0 (omega arith)))
 
 pub line-end-spec : {M : Type 1} → statement M
 line-end-spec =
@@ -67,7 +90,7 @@ line-end-spec =
     shared-slice-read-is-line-end
     is-line-end-requires
     returns
-    add-seek
+    add-on
     seek-requires
     loop-less
     loop-again

@@ -1,21 +1,24 @@
 -- `text::past_blocks` meets its contract: what is left to search gives the whole search's outcome. Assumes nothing.
-use Prim.Native.Nat.{_+_, _-_}
-use mathlib.Core.Path.{_≡_, refl}
+use Prim.Native.Nat.{ℕ, _+_, _-_, _≤_}
+use mathlib.Core.Path.{_≡_, refl, ap}
+use mathlib.Core.Bool.{Bool}
+use mathlib.Core.List.{List}
 use native.Mathlib.Omega.{arith}
 use lib.ListN.{length, take, drop, length-take, length-drop}
 use Rattle.lists.specs.Lists.{upTo}
 use Rattle.lists.proofs.Scans.{upTo-fits}
+use Rattle.protocol.specs.Lines.{placeAt}
 use Rattle.text.specs.Parts.{among}
 use Rattle.text.proofs.Seeks.{upTo-part, scan-from}
 use Rattle.text.proofs.past_blocks.Statement.{statement}
 use Rattle.text.proofs.past_blocks.Tie as tie
 
 abbrev Inv-loop : tie.InvT-loop
-Inv-loop s from low high inside last i₀ i =
-    i + length (upTo (among low high inside) (drop i s)) ≡ from + length (upTo (among low high inside) (drop from s))
+Inv-loop s low high inside last i₀ i =
+    i + length (upTo (among low high inside) (drop i s)) ≡ i₀ + length (upTo (among low high inside) (drop i₀ s))
 
 abbrev μ-loop : tie.MeasureT-loop
-μ-loop s from low high inside last i₀ i = length s - i
+μ-loop s low high inside last i₀ i = length s - i
 
 returns : tie.Need-returns Inv-loop μ-loop
 returns c = refl
@@ -41,39 +44,53 @@ part-front-of-block-end c = omega arith
 front-of-block-requires : tie.Need-front-of-block-requires Inv-loop μ-loop
 front-of-block-requires c κs = simp (length-take, length-drop) (omega arith)
 
-add-result : tie.Need-add-result Inv-loop μ-loop
-add-result c = omega arith
+-- what is searched, for what, and from where on
+module _ (l : tie.At-loop Inv-loop μ-loop) where
+  abbrev start : tie.Start Inv-loop μ-loop
+  start = l .before .before .before
+
+  abbrev text : List ℕ
+  text = start .args .s .now
+
+  abbrev sought : ℕ → Bool
+  sought = among (start .args .low) (start .args .high) (start .args .inside)
+
+  abbrev here : ℕ
+  here = l .loop .i
+
+-- behind the front of a block the search goes on
+module _ (c : tie.After-front-of-block Inv-loop μ-loop) where
+  abbrev loop : tie.At-loop Inv-loop μ-loop
+  loop = c .before .before .before
+
+  abbrev front : ℕ
+  front = c .front-of-block .result
+
+  on : (k : ℕ) → k ≡ front → Inv-loop (text loop) (start loop .args .low) (start loop .args .high) (start loop .args .inside) 0 (here loop) (here loop + k)
+  on k e =
+      scan-from (sought loop) (text loop) (here loop) _ (here loop + k) (upTo-part (sought loop) (here loop + 64 - here loop) (drop (here loop) (text loop)))
+      (omega (arith, c .front-of-block .ensures))
+
+  -- it is no longer than its block
+  front-fits : front ≤ 64
+  front-fits =
+      let block = take (here loop + 64 - here loop) (drop (here loop) (text loop)) in
+      omega (arith, c .front-of-block .ensures, upTo-fits (sought loop) block, length-take (here loop + 64 - here loop) (drop (here loop) (text loop)))
+
+add-found : tie.Need-add-found Inv-loop μ-loop
+add-found c = omega arith
 
 returns-2 : tie.Need-returns-2 Inv-loop μ-loop
-returns-2 c =
-    let l = c .before .before .before .before in
-    let a = l .before .before .before .args in
-    let f = among (a .low) (a .high) (a .inside) in
-    let i = l .loop .i in
-    let front = c .before .front-of-block in
-    let part = upTo-part f (i + 64 - i) (drop i (a .s .now)) in
-    omega (arith, l .loop .inv, scan-from f (a .s .now) i _ (i + front .result) part (omega (arith, front .ensures)))
+returns-2 c = ap placeAt (omega (arith, on (c .before) (front (c .before)) refl, loop (c .before) .loop .inv))
 
 loop-less : tie.Need-loop-less Inv-loop μ-loop
 loop-less c = omega arith
 
 loop-again : tie.Need-loop-again Inv-loop μ-loop
-loop-again c =
-    let l = c .before .before .before .before in
-    let a = l .before .before .before .args in
-    let f = among (a .low) (a .high) (a .inside) in
-    let i = l .loop .i in
-    let rest = drop i (a .s .now) in
-    let part = upTo-part f (i + 64 - i) rest in
-    let fits = upTo-fits f (take (i + 64 - i) rest) in
-    omega (
-      arith,
-      l .loop .inv,
-      scan-from f (a .s .now) i _ (i + 64) part (omega (arith, c .before .front-of-block .ensures, fits, length-take (i + 64 - i) rest)),
-    )
+loop-again c = omega (arith, on (c .before) 64 (omega (arith, front-fits (c .before))), loop (c .before) .loop .inv)
 
 returns-3 : tie.Need-returns-3 Inv-loop μ-loop
-returns-3 c = c .before .loop .inv
+returns-3 c = ap placeAt (c .before .loop .inv)
 
 pub past-blocks-spec : {M : Type 1} → statement M
 past-blocks-spec =
@@ -89,7 +106,7 @@ past-blocks-spec =
     part-front-of-block-start
     part-front-of-block-end
     front-of-block-requires
-    add-result
+    add-found
     returns-2
     loop-less
     loop-again

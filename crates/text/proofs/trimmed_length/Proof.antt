@@ -1,11 +1,12 @@
 -- `text::trimmed_length` meets its contract: what is left is the whole without some spaces and tabs at its end. Assumes nothing.
-use Prim.Native.Nat.{ℕ, _≤_}
+use Prim.Native.Nat.{ℕ, _-_, _≤_}
 use mathlib.Core.Path.{_≡_, sym, ap, _∙_}
 use mathlib.Core.List.{List}
 use native.Mathlib.Omega.{arith}
-use lib.ListN.{length, take}
+use lib.ListN.{length, take, getD}
 use lib.Seq.{take-all}
 use borrow.Author.Tests.{not-true, not-false}
+use Rattle.protocol.specs.Octets.{blank}
 use Rattle.protocol.specs.Text.{trimEnd}
 use Rattle.text.proofs.Trims.{end-blank, end-solid, end-none}
 use Rattle.text.proofs.trimmed_length.Statement.{statement}
@@ -29,12 +30,28 @@ shared-slice-read-is-blank c = omega arith
 is-blank-requires : tie.Need-is-blank-requires Inv-loop μ-loop
 is-blank-requires c κs = tt
 
+-- the text, and how much of it is left
+module _ (l : tie.At-loop Inv-loop μ-loop) where
+  abbrev text : List ℕ
+  text = l .before .before .args .s .now
+
+  abbrev left : ℕ
+  left = l .loop .n
+
+-- the last octet of it, looked at
+module _ (c : tie.After-is-blank Inv-loop μ-loop) where
+  abbrev loop : tie.At-loop Inv-loop μ-loop
+  loop = c .before .before .before
+
+  told : blank (getD (text loop) (left loop - 1) 0) ≡ c .is-blank .result
+  told = sym (c .is-blank .ensures)
+
 returns : tie.Need-returns Inv-loop μ-loop
 returns c =
-    let s = c .before .before .before .before in
-    let text = s .before .before .args .s .now in
-    let solid = sym (c .before .is-blank .ensures) ∙ not-true (c .before .is-blank .result) (c .if1 .taken) in
-    sym (ap length (sym (s .loop .inv .1)) ∙ end-solid text (s .loop .n) (omega arith) (omega arith) solid)
+    let b = c .before in
+    let l = loop b in
+    let solid = told b ∙ not-true (b .is-blank .result) (c .if1 .taken) in
+    sym (ap length (sym (l .loop .inv .1)) ∙ end-solid (text l) (left l) (omega arith) (omega arith) solid)
 
 sub-n : tie.Need-sub-n Inv-loop μ-loop
 sub-n c = omega arith
@@ -44,17 +61,16 @@ loop-less c = omega arith
 
 loop-again : tie.Need-loop-again Inv-loop μ-loop
 loop-again c =
-    let s = c .before .before .before .before in
-    let text = s .before .before .args .s .now in
-    let blanks = sym (c .before .is-blank .ensures) ∙ not-false (c .before .is-blank .result) (c .if1 .left) in
-    (omega arith, end-blank text (s .loop .n) (omega arith) (omega arith) blanks ∙ s .loop .inv .1)
+    let b = c .before in
+    let l = loop b in
+    let blanks = told b ∙ not-false (b .is-blank .result) (c .if1 .left) in
+    (omega arith, end-blank (text l) (left l) (omega arith) (omega arith) blanks ∙ l .loop .inv .1)
 
 returns-2 : tie.Need-returns-2 Inv-loop μ-loop
 returns-2 c =
-    let s = c .before in
-    let text : List ℕ = s .before .before .args .s .now in
-    let none : s .loop .n ≡ 0 = omega arith in
-    none ∙ sym (ap length (sym (s .loop .inv .1) ∙ ap (λ (n : ℕ). trimEnd (take n text)) none ∙ end-none text))
+    let l = c .before in
+    let none : left l ≡ 0 = omega arith in
+    none ∙ sym (ap length (sym (l .loop .inv .1) ∙ ap (λ (n : ℕ). trimEnd (take n (text l))) none ∙ end-none (text l)))
 
 pub trimmed-length-spec : {M : Type 1} → statement M
 trimmed-length-spec =

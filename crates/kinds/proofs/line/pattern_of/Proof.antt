@@ -1,14 +1,18 @@
 -- `kinds::line::pattern_of` meets its contract. Assumes nothing.
-use Prim.Native.Nat.{ℕ, _-_}
-use mathlib.Core.Path.{sym, ap, _∙_}
-use mathlib.Core.List.{List}
+use Prim.Native.Nat.{ℕ, _-_, _≤_}
+use mathlib.Core.Path.{_≡_, sym, ap, _∙_}
+use mathlib.Core.Bool.{true}
+use mathlib.Core.List.{List, []}
 use native.Mathlib.Omega.{arith}
 use lib.ListN.{length, take, drop}
 use lib.Seq.{length-take-le}
 use borrow.Author.Needs.{needs}
 use Rattle.lists.proofs.Scans.{upTo-fits}
+use Rattle.protocol.specs.declared.Place.{Place}
+use Rattle.protocol.specs.Readable.{wellFormed}
 use Rattle.protocol.specs.Kinds.{patternAt}
 use Rattle.readable.specs.Due.{unusual}
+use Rattle.fields.specs.Fields.{ended, valueAt}
 use Rattle.kinds.proofs.Fronts.{value-fits, value-of, value-at, front-value, front-formed}
 use Rattle.kinds.proofs.line.pattern_of.Statement.{statement}
 use Rattle.kinds.proofs.line.pattern_of.Tie as tie
@@ -28,47 +32,69 @@ ordinary-front-requires c κs = tt
 ends-at-requires : tie.Need-ends-at-requires
 ends-at-requires c κs = tt
 
+-- the octets from the value on, and the ordinary ones in front
+module _ (c : tie.After-ordinary-front) where
+  abbrev text : List ℕ
+  text = c .before .before .before .args .r .now
+
+  abbrev value : Place
+  value = c .before .before .before .args .value
+
+  abbrev rest : List ℕ
+  rest = take (length text - value .offset) (drop (value .offset) text)
+
+  abbrev front : ℕ
+  front = c .ordinary-front .result
+
+  front-in : front ≤ length rest
+  front-in = omega (arith, c .ordinary-front .ensures, upTo-fits unusual rest)
+
+  formed : wellFormed [] (take front rest) ≡ true
+  formed = front-formed rest front (c .ordinary-front .ensures)
+
+  front-told : ended (drop front rest) ≡ true → take front rest ≡ valueAt value text
+  front-told e = front-value rest front (c .ordinary-front .ensures) e ∙ value-of text value
+
+-- nothing is examined behind them
+abbrev whole : tie.Then1 → tie.After-ordinary-front
+whole c = c .before .before
+
 slice-aggregate-formed-pattern : tie.Need-slice-aggregate-formed-pattern
-slice-aggregate-formed-pattern c =
-    let a = c .before .before .before .before .before .before .args in
-    let rest : List ℕ = take (length (a .r .now) - a .value) (drop (a .value) (a .r .now)) in
-    let n = c .before .before .before .ordinary-front in
-    sym (length-take-le (n .result) rest (omega (arith, n .ensures, upTo-fits unusual rest)))
+slice-aggregate-formed-pattern c = let f = whole (c .before) in sym (length-take-le (front f) (rest f) (front-in f))
 
 formed-pattern-requires : tie.Need-formed-pattern-requires
-formed-pattern-requires c κs =
-    let a = c .before .before .before .before .before .before .args in
-    let rest : List ℕ = take (length (a .r .now) - a .value) (drop (a .value) (a .r .now)) in
-    let n = c .before .before .before .ordinary-front in
-    front-formed rest (n .result) (n .ensures)
+formed-pattern-requires c κs = formed (whole (c .before))
 
 returns : tie.Need-returns
 returns c =
-    let a = c .before .before .before .before .before .before .before .args in
-    let rest : List ℕ = take (length (a .r .now) - a .value) (drop (a .value) (a .r .now)) in
-    let n = c .before .before .before .before .ordinary-front in
-    c .formed-pattern .ensures
-    ∙ ap (patternAt (a .value))
-    (front-value rest (n .result) (n .ensures) (sym (c .before .before .before .ends-at .ensures) ∙ c .before .before .if1 .taken) ∙ value-of (a .r .now) (a .value))
+    let t = c .before .before in
+    c .formed-pattern .ensures ∙ ap (patternAt (value (whole t))) (front-told (whole t) (sym (t .before .ends-at .ensures) ∙ t .if1 .taken))
 
 value-length-requires : tie.Need-value-length-requires
 value-length-requires c κs = tt
 
+-- something is
+module _ (c : tie.After-value-length) where
+  abbrev seen : tie.After-ordinary-front
+  seen = c .before .before .before
+
+  abbrev size : ℕ
+  size = c .value-length .result
+
+  size-in : size ≤ length (rest seen)
+  size-in = omega (arith, c .value-length .ensures, value-fits (rest seen))
+
+  told : take size (rest seen) ≡ valueAt (value seen) (text seen)
+  told = value-at (text seen) (value seen) size (c .value-length .ensures)
+
 slice-aggregate-pattern-at : tie.Need-slice-aggregate-pattern-at
-slice-aggregate-pattern-at c =
-    let a = c .before .before .before .before .before .before .before .args in
-    let rest : List ℕ = take (length (a .r .now) - a .value) (drop (a .value) (a .r .now)) in
-    let n = c .before .value-length in
-    sym (length-take-le (n .result) rest (omega (arith, n .ensures, value-fits rest)))
+slice-aggregate-pattern-at c = sym (length-take-le (size (c .before)) (rest (seen (c .before))) (size-in (c .before)))
 
 pattern-at-requires : tie.Need-pattern-at-requires
 pattern-at-requires c κs = tt
 
 returns-2 : tie.Need-returns-2
-returns-2 c =
-    let a = c .before .before .before .before .before .before .before .before .args in
-    let n = c .before .before .value-length in
-    c .pattern-at .ensures ∙ ap (patternAt (a .value)) (value-at (a .r .now) (a .value) (n .result) (n .ensures))
+returns-2 c = c .pattern-at .ensures ∙ ap (patternAt (value (seen (c .before .before)))) (told (c .before .before))
 
 pub pattern-of-spec : {M : Type 1} → statement M
 pattern-of-spec =

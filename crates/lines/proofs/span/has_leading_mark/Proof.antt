@@ -1,5 +1,7 @@
 -- `lines::span::has_leading_mark` meets its contract. Assumes nothing.
+use Prim.Native.Nat.{ℕ}
 use mathlib.Core.Path.{sym}
+use mathlib.Core.List.{List}
 use native.Mathlib.Omega.{arith}
 use borrow.Author.Tests.{eq-eqb, ne-eqb}
 use Rattle.lines.proofs.Endings.{leading-mark-short, leading-mark-read}
@@ -12,26 +14,29 @@ returns c = sym (leading-mark-short (c .before .args .file .now) (omega arith))
 shared-slice-read-if2 : tie.Need-shared-slice-read-if2
 shared-slice-read-if2 c = omega arith
 
+-- the file has three octets
+abbrev file : tie.Else1 → List ℕ
+file c = c .before .args .file .now
+
 returns-2 : tie.Need-returns-2
-returns-2 c =
-    let file = c .before .before .before .args .file .now in
-    rw (leading-mark-read file (omega arith), ne-eqb _ 0xEF (c .if2 .taken))
+returns-2 c = rw (leading-mark-read (file (c .before .before)) (omega arith), ne-eqb _ 0xEF (c .if2 .taken))
 
 shared-slice-read-if3 : tie.Need-shared-slice-read-if3
 shared-slice-read-if3 c = omega arith
 
 returns-3 : tie.Need-returns-3
 returns-3 c =
-    let file = c .before .before .before .before .before .args .file .now in
-    rw (leading-mark-read file (omega arith), eq-eqb _ 0xEF (c .before .before .if2 .left), ne-eqb _ 0xBB (c .if3 .taken))
+    let first = c .before .before in
+    rw (leading-mark-read (file (first .before .before)) (omega arith), eq-eqb _ 0xEF (first .if2 .left), ne-eqb _ 0xBB (c .if3 .taken))
 
 shared-slice-read-result : tie.Need-shared-slice-read-result
 shared-slice-read-result c = omega arith
 
 returns-4 : tie.Need-returns-4
 returns-4 c =
-    let file = c .before .before .before .before .before .before .args .file .now in
-    rw (leading-mark-read file (omega arith), eq-eqb _ 0xEF (c .before .before .before .if2 .left), eq-eqb _ 0xBB (c .before .if3 .left))
+    let second = c .before in
+    let first = second .before .before in
+    rw (leading-mark-read (file (first .before .before)) (omega arith), eq-eqb _ 0xEF (first .if2 .left), eq-eqb _ 0xBB (second .if3 .left))
 
 pub has-leading-mark-spec : {M : Type 1} → statement M
 has-leading-mark-spec =

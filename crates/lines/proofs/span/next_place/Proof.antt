@@ -1,18 +1,73 @@
 -- `lines::span::next_place` meets its contract. Assumes nothing.
-use mathlib.Core.Path.{ap}
-use Rattle.lines.specs.declared.span.Span.{Span}
+use Prim.Native.Nat.{ℕ}
+use mathlib.Core.Path.{_≡_, ap, _∙_}
+use mathlib.Core.List.{List}
+use native.Mathlib.Omega.{arith}
 use borrow.Author.Needs.{needs}
+use Rattle.lists.proofs.Scans.{rest-of}
+use Rattle.protocol.specs.declared.Place.{Place}
+use Rattle.protocol.specs.Lines.{placeAfter, endingLength}
+use Rattle.lines.specs.Spans.{nextAt}
+use Rattle.lines.proofs.Forward.{next-of, next-end, next-inside}
 use Rattle.lines.proofs.span.next_place.Statement.{statement}
 use Rattle.lines.proofs.span.next_place.Tie as tie
 
-add-t5 : tie.Need-add-t5
-add-t5 c = search needs
+line-end-requires : tie.Need-line-end-requires
+line-end-requires c κs = search needs
 
-next-line-requires : tie.Need-next-line-requires
-next-line-requires c κs = search needs
+-- the place behind the text, and behind the ending there
+module _ (c : tie.After-line-end) where
+  abbrev file : List ℕ
+  file = c .before .before .args .file .now
+
+  abbrev from : Place
+  from = c .before .before .args .from
+
+  abbrev end : Place
+  end = c .line-end .result
 
 returns : tie.Need-returns
-returns c = ap (λ (s : Span). s .next) (c .before .next-line .ensures)
+returns c = next-end (file (c .before)) (from (c .before)) (end (c .before)) (c .before .line-end .ensures) (omega arith)
+
+sub-ending-length : tie.Need-sub-ending-length
+sub-ending-length c = search needs
+
+part-ending-length-start : tie.Need-part-ending-length-start
+part-ending-length-start c = search needs
+
+part-ending-length-end : tie.Need-part-ending-length-end
+part-ending-length-end c = search needs
+
+ending-length-requires : tie.Need-ending-length-requires
+ending-length-requires c κs = search needs
+
+module _ (c : tie.After-ending-length) where
+  abbrev found : tie.After-line-end
+  found = c .before .before .before
+
+  next : placeAfter (end found) (c .ending-length .result) ≡ nextAt (file found) (from found)
+  next =
+      let ending = c .ending-length .ensures ∙ ap endingLength (rest-of (end found .offset) (file found)) in
+      ap (placeAfter (end found)) ending ∙ next-of (file found) (from found) (end found) (found .line-end .ensures)
+
+add-next : tie.Need-add-next
+add-next c =
+    let f = found c in
+    let e : end f .offset ≡ _ = ap (λ (p : Place). p .offset) (f .line-end .ensures) in
+    omega (arith, ap (λ (p : Place). p .offset) (next c), next-inside (file f) (from f) (omega (arith, e)))
+
+returns-2 : tie.Need-returns-2
+returns-2 c = next c
 
 pub next-place-spec : {M : Type 1} → statement M
-next-place-spec = tie.close (tie.spec add-t5 next-line-requires returns)
+next-place-spec =
+    tie.close
+    (tie.spec
+    line-end-requires
+    returns
+    sub-ending-length
+    part-ending-length-start
+    part-ending-length-end
+    ending-length-requires
+    add-next
+    returns-2)

@@ -1,8 +1,10 @@
 -- `text::same::begins_with` meets its contract: what is left of the text's front and of the word gives the whole comparison. Assumes nothing.
-use Prim.Native.Nat.{_-_, _≤_}
+use Prim.Native.Nat.{ℕ, _-_, _≤_}
 use mathlib.Core.Path.{_≡_, refl, sym, _∙_}
+use mathlib.Core.List.{List}
 use native.Mathlib.Omega.{arith}
-use lib.ListN.{length, take}
+use lib.ListN.{length, take, getD}
+use Rattle.protocol.specs.Octets.{lowerCase}
 use Rattle.protocol.specs.Text.{sameIgnoringCase}
 use Rattle.text.proofs.Comparing.{beginsFrom, case-short, case-other, case-on, case-end}
 use Rattle.text.proofs.same.begins_with.Statement.{statement}
@@ -33,11 +35,33 @@ shared-slice-read-lower-case-2 c = omega arith
 lower-case-requires-2 : tie.Need-lower-case-requires-2 Inv-loop μ-loop
 lower-case-requires-2 c κs = tt
 
+-- the text and the word, and where the comparison has come to
+module _ (l : tie.At-loop Inv-loop μ-loop) where
+  abbrev text : List ℕ
+  text = l .before .before .before .before .args .s .now
+
+  abbrev word : List ℕ
+  word = l .before .before .before .before .args .word .now
+
+  abbrev here : ℕ
+  here = l .loop .i
+
+-- the two octets there, in lower case
+module _ (c : tie.After-lower-case2 Inv-loop μ-loop) where
+  abbrev loop : tie.At-loop Inv-loop μ-loop
+  loop = c .before .before .before .before .before
+
+  first : c .before .before .lower-case .result ≡ lowerCase (getD (text loop) (here loop) 0)
+  first = c .before .before .lower-case .ensures
+
+  second : c .lower-case2 .result ≡ lowerCase (getD (word loop) (here loop) 0)
+  second = c .lower-case2 .ensures
+
 returns-2 : tie.Need-returns-2 Inv-loop μ-loop
 returns-2 c =
-    let a = c .before .before .before .before .before .before .before .before .before .before .args in
-    let l = c .before .before .before .before .before .before .loop in
-    sym (case-other (a .s .now) (a .word .now) (l .inv .0) (l .i) (omega arith) (λ e. c .if2 .taken (c .before .before .before .lower-case .ensures ∙ e ∙ sym (c .before .lower-case2 .ensures)))) ∙ l .inv .1
+    let b = c .before in
+    let l = loop b in
+    sym (case-other (text l) (word l) (l .loop .inv .0) (here l) (omega arith) (λ e. c .if2 .taken (first b ∙ e ∙ sym (second b)))) ∙ l .loop .inv .1
 
 add-i : tie.Need-add-i Inv-loop μ-loop
 add-i c = omega arith
@@ -47,15 +71,13 @@ loop-less c = omega arith
 
 loop-again : tie.Need-loop-again Inv-loop μ-loop
 loop-again c =
-    let a = c .before .before .before .before .before .before .before .before .before .before .args in
-    let l = c .before .before .before .before .before .before .loop in
-    (l .inv .0, sym (case-on (a .s .now) (a .word .now) (l .inv .0) (l .i) (omega arith) (sym (c .before .before .before .lower-case .ensures) ∙ c .if2 .left ∙ c .before .lower-case2 .ensures)) ∙ l .inv .1)
+    let b = c .before in
+    let l = loop b in
+    (l .loop .inv .0, sym (case-on (text l) (word l) (l .loop .inv .0) (here l) (omega arith) (sym (first b) ∙ c .if2 .left ∙ second b)) ∙ l .loop .inv .1)
 
 returns-3 : tie.Need-returns-3 Inv-loop μ-loop
 returns-3 c =
-    let a = c .before .before .before .before .before .args in
-    let l = c .before .loop in
-    sym (case-end (a .s .now) (a .word .now) (l .inv .0) (l .i) (omega arith)) ∙ l .inv .1
+    let l = c .before in sym (case-end (text l) (word l) (l .loop .inv .0) (here l) (omega arith)) ∙ l .loop .inv .1
 
 pub begins-with-spec : {M : Type 1} → statement M
 begins-with-spec =

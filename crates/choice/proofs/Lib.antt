@@ -1,2 +1,0 @@
-pub mod Leads
-pub mod Weighs

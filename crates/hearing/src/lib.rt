@@ -1,0 +1,129 @@
+// Whose group this is, and how many lines are unread, after some agent and rule lines: each is known by its role and its value's octets.
+
+ghost use mathlib.Core.Path.{_≡_};
+ghost use mathlib.Core.Bool.{_&&_, _||_};
+ghost use Prim.Native.Nat.{_+_, _<_, _^_};
+ghost use Rattle.lists.specs.Choice.{oneIf};
+ghost use Rattle.protocol.specs.Readable.{everyone, names};
+ghost use Rattle.hearing.specs.Heard.{nothingHeard, whom, addressed, afterAgent, afterRule};
+use protocol::Audience;
+
+// After some agent and rule lines: the rules of the group above apply; an agent line here would join the group above; the unreadable lines.
+pub struct Hearing {
+    pub applies: bool,
+    pub joins: bool,
+    pub unread: usize,
+}
+
+// Before the first line.
+pub fn nothing_heard() -> Hearing
+    ensures { λ r. ⌜ r ≡ nothingHeard ⌝ }
+{
+    Hearing {
+        applies: false,
+        joins: false,
+        unread: 0,
+    }
+}
+
+// An agent's value names a crawler, or "*".
+fn names(value: &[u8], who: &[u8]) -> bool
+    ensures { λ r. ⌜ r ≡ names (now (value .entry)) (now (who .entry)) ⌝ }
+{
+    if text::same::same_ignoring_case(value, who) {
+        return readable::readable_agent(value);
+    }
+    false
+}
+
+// An agent's value names "*".
+fn names_everyone(value: &[u8]) -> bool
+    ensures { λ r. ⌜ r ≡ names (now (value .entry)) everyone ⌝ }
+{
+    let everyone = [b'*'];
+    names(value, &everyone)
+}
+
+// Whom an agent's value names: the crawler, "*", or neither.
+pub fn addressed(name: &[u8], value: &[u8]) -> Audience
+    ensures { λ r. ⌜ r ≡ addressed (now (name .entry)) (now (value .entry)) ⌝ }
+{
+    if names(value, name) {
+        return Audience::Crawler;
+    }
+    if names_everyone(value) {
+        return Audience::Everyone;
+    }
+    Audience::Nobody
+}
+
+// An agent's value names those whose groups apply.
+fn is_addressed(audience: Audience, name: &[u8], value: &[u8]) -> bool
+    ensures { λ r. ⌜ r ≡ names (now (value .entry)) (whom audience (now (name .entry))) ⌝ }
+{
+    match audience {
+        Audience::Crawler => names(value, name),
+        Audience::Everyone => names_everyone(value),
+        Audience::Nobody => false,
+    }
+}
+
+// An agent line here would join a group that applies.
+fn joins_applying(h: Hearing) -> bool
+    ensures { λ r. ⌜ r ≡ (h .joins && h .applies) ⌝ }
+{
+    if h.joins { h.applies } else { false }
+}
+
+// The group that an agent line starts or joins applies.
+fn group_applies(h: Hearing, audience: Audience, name: &[u8], value: &[u8]) -> bool
+    ensures { λ r. ⌜ r ≡ ((h .joins && h .applies) || names (now (value .entry)) (whom audience (now (name .entry)))) ⌝ }
+{
+    if joins_applying(h) {
+        return true;
+    }
+    is_addressed(audience, name, value)
+}
+
+// One line more in the unread count, where it is unreadable.
+fn unread_after(unread: usize, unreadable: bool) -> usize
+    requires { ⌜ unread + 1 < 2 ^ 64 ⌝ }
+    ensures { λ r. ⌜ r ≡ unread + oneIf unreadable ⌝ }
+{
+    if unreadable { unread + 1 } else { unread }
+}
+
+// After an agent line with that value, which is unreadable or not.
+pub fn hear_agent(
+    h: Hearing,
+    audience: Audience,
+    name: &[u8],
+    value: &[u8],
+    unreadable: bool,
+) -> Hearing
+    requires { ⌜ h .unread + 1 < 2 ^ 64 ⌝ }
+    ensures { λ r. ⌜ r ≡ afterAgent (whom audience (now (name .entry))) (now (value .entry)) unreadable h ⌝ }
+{
+    let applies = group_applies(h, audience, name, value);
+    let unread = unread_after(h.unread, unreadable);
+    Hearing {
+        applies,
+        joins: true,
+        unread,
+    }
+}
+
+// After a rule line, which is unreadable or not.
+pub fn hear_rule(h: Hearing, unreadable: bool) -> Hearing
+    requires { ⌜ h .unread + 1 < 2 ^ 64 ⌝ }
+    ensures { λ r. ⌜ r ≡ afterRule unreadable h ⌝ }
+{
+    let unread = unread_after(h.unread, unreadable);
+    // an agent line behind a rule line starts a group
+    let joins = false;
+    Hearing {
+        applies: h.applies,
+        joins,
+        unread,
+    }
+}

@@ -1,0 +1,214 @@
+-- `passes::gather::gather` meets its contract: the entries that are left give what is gathered of the whole file. Assumes nothing.
+use Prim.Native.Nat.{ℕ, _-_, _<_}
+use mathlib.Core.Path.{_≡_, refl, sym, ap, _∙_}
+use mathlib.Core.List.{List}
+use native.Mathlib.Omega.{arith}
+use lib.ListN.{length}
+use borrow.Author.Needs.{needs}
+use Rattle.lists.proofs.Scans.{rest-of}
+use Rattle.protocol.specs.declared.Place.{Place}
+use Rattle.protocol.specs.declared.Position.{Position}
+use Rattle.protocol.specs.Lines.{numberAfter}
+use Rattle.protocol.specs.Kinds.{kindOf}
+use Rattle.lines.specs.Spans.{textAt}
+use Rattle.lines.proofs.Forward.{next-inside}
+use Rattle.hearing.specs.Heard.{whom}
+use Rattle.passes.specs.Entries.{gathered}
+use Rattle.passes.specs.Steps.{PassedLine}
+use Rattle.passes.proofs.Turns.{lineBehind, left-all, left-none, Reached, reached-other, reached-rule}
+use Rattle.passes.proofs.gather.gather.Statement.{statement}
+use Rattle.passes.proofs.gather.gather.Tie as tie
+
+abbrev Inv-loop : tie.InvT-loop
+Inv-loop file audience name path scratch₀ heard₀ considered₀ at₀ scratch heard considered at =
+    Reached file (whom audience name) path scratch₀ scratch heard considered at (gathered file name audience path)
+
+abbrev μ-loop : tie.MeasureT-loop
+μ-loop file audience name path scratch₀ heard₀ considered₀ at₀ scratch heard considered at = length file - at .place .offset
+
+nothing-heard-requires : tie.Need-nothing-heard-requires Inv-loop μ-loop
+nothing-heard-requires c κs = tt
+
+none-considered-requires : tie.Need-none-considered-requires Inv-loop μ-loop
+none-considered-requires c κs = tt
+
+first-line-requires : tie.Need-first-line-requires Inv-loop μ-loop
+first-line-requires c κs = tt
+
+loop-holds : tie.Need-loop-holds Inv-loop μ-loop
+loop-holds c =
+    let a = c .before .before .before .before .before .before .before .args in
+    rw (c .first-line .ensures, c .before .none-considered .ensures, c .before .before .nothing-heard .ensures)
+    (record {
+      left = left-all (a .file .now) (a .name .now) (a .audience) (a .path .now);
+      same = refl;
+      counted = omega arith;
+      compared = omega arith;
+      unread = omega arith;
+    })
+
+-- the line where a turn begins
+module _ (c : tie.Then1 Inv-loop μ-loop) where
+  abbrev turn : tie.At-loop Inv-loop μ-loop
+  turn = c .before .before
+
+  abbrev entry : tie.Start Inv-loop μ-loop
+  entry = c .before .before .before .before .before .before .before .before .before .before
+
+  abbrev file : List ℕ
+  file = entry .args .file .now
+
+  abbrev at : Position
+  at = turn .loop .at
+
+  inside : at .place .offset < length file
+  inside = c .if1 .taken
+
+sub-kind-of : tie.Need-sub-kind-of Inv-loop μ-loop
+sub-kind-of c = omega (arith, inside c)
+
+part-kind-of-start : tie.Need-part-kind-of-start Inv-loop μ-loop
+part-kind-of-start c = omega (arith, inside c)
+
+part-kind-of-end : tie.Need-part-kind-of-end Inv-loop μ-loop
+part-kind-of-end c = omega (arith, inside c)
+
+kind-of-requires : tie.Need-kind-of-requires Inv-loop μ-loop
+kind-of-requires c κs = tt
+
+-- its kind
+module _ (c : tie.After-kind-of Inv-loop μ-loop) where
+  abbrev line : tie.Then1 Inv-loop μ-loop
+  line = c .before .before
+
+  kind-known : c .kind-of .result ≡ kindOf (textAt (file line) (at line .place))
+  kind-known = rw (rest-of (at line .place .offset) (file line)) at (c .kind-of .ensures)
+
+pass-line-requires : tie.Need-pass-line-requires Inv-loop μ-loop
+pass-line-requires c κs = let l = line c in (inside l, turn l .loop .inv .counted, kind-known c)
+
+next-place-requires : tie.Need-next-place-requires Inv-loop μ-loop
+next-place-requires c κs = tt
+
+next-line-requires : tie.Need-next-line-requires Inv-loop μ-loop
+next-line-requires c κs =
+    let past = c .before .pass-line .ensures in
+    let l = line (c .before .before) in
+    omega (arith, past .counted, next-inside (file l) (c .before .pass-line .result .place) (past .inside), entry l .pre .0)
+
+-- the next line, behind those that are passed
+module _ (c : tie.After-next-line Inv-loop μ-loop) where
+  abbrev told : tie.After-kind-of Inv-loop μ-loop
+  told = c .before .before .before
+
+  abbrev over : Position
+  over = c .before .before .pass-line .result
+
+  passed : PassedLine (file (line told)) (at (line told)) over
+  passed = c .before .before .pass-line .ensures
+
+  next-known : c .next-line .result ≡ lineBehind (file (line told)) over
+  next-known =
+      c .next-line .ensures
+      ∙ ap (λ (q : Place). record { number = numberAfter (over .number) 1; place = q }) (c .before .next-place .ensures)
+
+  less : length (file (line told)) - c .next-line .result .place .offset < length (file (line told)) - at (line told) .place .offset
+  less = omega (arith, ap (λ (p : Position). p .place .offset) next-known, passed .further, inside (line told))
+
+enum-known-kind : tie.Need-enum-known-kind Inv-loop μ-loop
+enum-known-kind c = search needs
+
+hear-other-requires : tie.Need-hear-other-requires Inv-loop μ-loop
+hear-other-requires c κs =
+    let k = told (c .before) in
+    let l = line k in
+    (omega (arith, inside l), kind-known k, omega (arith, turn l .loop .inv .unread, inside l, entry l .pre .0))
+
+loop-less : tie.Need-loop-less Inv-loop μ-loop
+loop-less c = less (c .before .before)
+
+loop-again : tie.Need-loop-again Inv-loop μ-loop
+loop-again c =
+    let n = c .before .before in
+    let k = told n in
+    let l = line k in
+    let a = entry l .args in
+    let t = turn l .loop in
+    reached-other (file l) (whom (a .audience) (a .name .now)) (a .path .now) (a .scratch .now) (t .scratch) (t .h) (t .c) (at l) _ (t .inv) (inside l) (over n) (passed n) _ (next-known n) _ (kind-known k) (c .before .match .keys2) _ (c .hear-other .ensures)
+
+consider-rule-requires : tie.Need-consider-rule-requires Inv-loop μ-loop
+consider-rule-requires c κs =
+    let k = told (c .before .before .before .before) in
+    let l = line k in
+    let t = turn l .loop in
+    let s = entry l in (
+      sym (c .before .before .kind .given .1) ∙ kind-known k,
+      record {
+        size = s .pre .0;
+        inside = omega (arith, inside l);
+        short = s .pre .1;
+        lent = omega (arith, s .pre .2, t .inv .same);
+        compared = t .inv .compared;
+      },
+    )
+
+is-unread-rule-requires : tie.Need-is-unread-rule-requires Inv-loop μ-loop
+is-unread-rule-requires c κs = tt
+
+hear-rule-requires : tie.Need-hear-rule-requires Inv-loop μ-loop
+hear-rule-requires c κs =
+    let l = line (told (c .before .before .before .before .before .before .before .before)) in
+    omega (arith, turn l .loop .inv .unread, inside l, entry l .pre .0)
+
+loop-less-2 : tie.Need-loop-less-2 Inv-loop μ-loop
+loop-less-2 c = less (c .before .before .before .before .before .before .before .before .before)
+
+loop-again-2 : tie.Need-loop-again-2 Inv-loop μ-loop
+loop-again-2 c =
+    let n = c .before .before .before .before .before .before .before .before .before in
+    let k = told n in
+    let l = line k in
+    let s = entry l in
+    let a = s .args in
+    let t = turn l .loop in
+    let ruled = c .before .before .before .before .before .before .before .kind in
+    let done = c .before .before .before .before .consider-rule in
+    reached-rule (file l) (whom (a .audience) (a .name .now)) (a .path .now) (a .scratch .now) (t .scratch) (t .h) (t .c) (at l) _ (t .inv) (inside l) (over n) (passed n) _ (next-known n) _ (kind-known k) (ruled .given .0 .0) (ruled .given .0 .1 .0) (ruled .given .1) (s .pre .1) _ (c .before .is-unread-rule .ensures) _ (c .hear-rule .ensures) _ (done .ensures .0) _ (done .ensures .1)
+
+same-length : tie.Need-same-length Inv-loop μ-loop
+same-length c = c .before .before .loop .inv .same
+
+returns : tie.Need-returns Inv-loop μ-loop
+returns c =
+    let t = c .before .before .loop in
+    let a = c .before .before .before .before .before .before .before .before .before .before .args in
+    (left-none (a .file .now) (whom (a .audience) (a .name .now)) (a .path .now) (t .h) (t .c) (t .at) _ (t .inv .left) (c .if1 .left), t .inv .same)
+
+pub gather-spec : {M : Type 1} → statement M
+gather-spec =
+    tie.close
+    (tie.spec
+    Inv-loop
+    μ-loop
+    nothing-heard-requires
+    none-considered-requires
+    first-line-requires
+    loop-holds
+    sub-kind-of
+    part-kind-of-start
+    part-kind-of-end
+    kind-of-requires
+    pass-line-requires
+    next-place-requires
+    next-line-requires
+    enum-known-kind
+    hear-other-requires
+    loop-less
+    loop-again
+    consider-rule-requires
+    is-unread-rule-requires
+    hear-rule-requires
+    loop-less-2
+    loop-again-2
+    same-length
+    returns)

@@ -1,0 +1,56 @@
+// Whose groups apply: one pass over the agent lines.
+
+ghost use mathlib.Core.Path.{_≡_};
+ghost use Prim.Native.Nat.{_≤_};
+ghost use lib.ListN.{length};
+ghost use Rattle.protocol.specs.Entries.{entries};
+ghost use Rattle.protocol.specs.Rules.{audience};
+ghost use Rattle.passes.specs.Entries.{lineAudience, unlessNobody};
+use fields::Field;
+use protocol::Audience;
+use protocol::Place;
+
+// Whom the line that begins at `at` names.
+fn line_audience(file: &[u8], at: Place, name: &[u8]) -> Audience
+    requires { ⌜ at .offset ≤ length (now file) ⌝ }
+    ensures { λ r. ⌜ r ≡ lineAudience (now (file .entry)) (now (name .entry)) at ⌝ }
+{
+    let start = at.offset;
+    let rest = &file[start..];
+    let head = fields::head_of(rest);
+    let field = head.field;
+    let Field::Agent = field else {
+        return Audience::Nobody;
+    };
+    let kind = kinds::line::kind_at(rest, head);
+    hearing::addressed(name, crate::line::value_of(file, at, kind))
+}
+
+// Whom a line names, or else whom those in front of it do.
+fn unless_nobody(here: Audience, before: Audience) -> Audience
+    ensures { λ r. ⌜ r ≡ unlessNobody here before ⌝ }
+{
+    match here {
+        Audience::Crawler => here,
+        Audience::Everyone => here,
+        Audience::Nobody => before,
+    }
+}
+
+// The first agent line that names the crawler tells; otherwise it matters whether one names "*".
+pub fn choose_audience(file: &[u8], name: &[u8]) -> Audience
+    ensures { λ r. ⌜ r ≡ audience (now (file .entry)) (entries (now (file .entry))) (now (name .entry)) ⌝ }
+{
+    let mut audience = Audience::Nobody;
+    let mut at = crate::line::first_line(file);
+    while at.place.offset < file.len() {
+        let here = line_audience(file, at.place, name);
+        if let Audience::Crawler = here {
+            return here;
+        }
+        audience = unless_nobody(here, audience);
+        let over = lines::skip::pass(file, at, false);
+        at = crate::line::next_line(over, lines::span::next_place(file, over.place));
+    }
+    audience
+}

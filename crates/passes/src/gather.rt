@@ -1,0 +1,155 @@
+// What the agent and rule lines of a file come to.
+
+ghost use mathlib.Core.Path.{_≡_};
+ghost use Prim.Native.Nat.{_+_, _≤_, _<_, _^_};
+ghost use lib.ListN.{length};
+ghost use Rattle.protocol.specs.declared.Kind.{Kind};
+ghost use Rattle.protocol.specs.Kinds.{kindOf, unreadableKind};
+ghost use Rattle.protocol.specs.Entries.{rule};
+ghost use Rattle.lines.specs.Spans.{textAt};
+ghost use Rattle.hearing.specs.Heard.{whom};
+ghost use Rattle.considering.specs.Considering.{consideredAll};
+ghost use Rattle.passes.specs.Entries.{heardOther, entryAt, ruleHeard, gathered};
+ghost use Rattle.passes.specs.Steps.{Room, PassedLine};
+use considering::Considered;
+use hearing::Hearing;
+use protocol::Agent;
+use protocol::Audience;
+use protocol::Kind;
+use protocol::Pattern;
+use protocol::Place;
+use protocol::Position;
+use protocol::Rule;
+use protocol::Side;
+
+// What the rules that apply come to, and the unreadable lines of the whole file.
+pub struct Gathered {
+    pub considered: Considered,
+    pub unread: usize,
+}
+
+fn is_unread_agent(agent: Agent) -> bool
+    ensures { λ r. ⌜ r ≡ unreadableKind (Kind.Agent agent) ⌝ }
+{
+    match agent {
+        Agent::Readable(_, _) => false,
+        Agent::Unreadable(_, _) => true,
+    }
+}
+
+fn is_unread_rule(side: Side, pattern: Pattern) -> bool
+    ensures { λ r. ⌜ r ≡ unreadableKind (Kind.Rule side pattern) ⌝ }
+{
+    match pattern {
+        Pattern::Empty => false,
+        Pattern::Readable(_, _) => false,
+        Pattern::Unreadable(_, _) => true,
+    }
+}
+
+// After a line that is no rule line: an agent line is heard, and any other changes nothing.
+fn hear_other(
+    h: Hearing,
+    audience: Audience,
+    name: &[u8],
+    file: &[u8],
+    at: Place,
+    kind: Kind,
+) -> Hearing
+    requires { ⌜ (at .offset ≤ length (now file)) × (kind ≡ kindOf (textAt (now file) at)) × (h .unread + 1 < 2 ^ 64) ⌝ }
+    ensures { λ r. ⌜ r ≡ heardOther (now (file .entry)) (whom audience (now (name .entry))) at kind h ⌝ }
+{
+    let Kind::Agent(agent) = kind else {
+        return h;
+    };
+    let value = crate::line::value_of(file, at, kind);
+    hearing::hear_agent(h, audience, name, value, is_unread_agent(agent))
+}
+
+// After a rule line: a readable rule of a group that applies is considered.
+fn consider_rule(
+    c: Considered,
+    applies: bool,
+    file: &[u8],
+    at: Position,
+    side: Side,
+    pattern: Pattern,
+    path: &[u8],
+    scratch: &mut [u8],
+) -> Considered
+    requires { ⌜ (Kind.Rule side pattern ≡ kindOf (textAt (now file) (at .place))) × Room (now file) (now path) (now scratch) (at .place) c ⌝ }
+    ensures { λ r. ⌜ r ≡ consideredAll (now (file .entry)) (now (path .entry)) c (ruleHeard (now (file .entry)) applies (rule side) (entryAt at (Kind.Rule side pattern) (rule side))) ⌝ }
+    ensures { λ _. ⌜ length (now (scratch .exit)) ≡ length (now (scratch .entry)) ⌝ }
+{
+    let Pattern::Readable(place, length) = pattern else {
+        return c;
+    };
+    if !applies {
+        return c;
+    }
+    let start = at.place.offset + place.offset;
+    let end = start + length;
+    let line = at.number;
+    let rule = Rule {
+        line,
+        side,
+        place: Place { offset: start },
+        length,
+    };
+    considering::consider(c, rule, &file[start..end], path, scratch)
+}
+
+// An octet of the last line that is passed: of the line at `at`, or of one behind it, no agent or rule line being among those.
+fn pass_line(file: &[u8], at: Position, kind: Kind) -> Position
+    requires { ⌜ (at .place .offset < length (now file)) × (at .number .number ≤ at .place .offset + 1) × (kind ≡ kindOf (textAt (now file) (at .place))) ⌝ }
+    ensures { λ r. ⌜ PassedLine (now (file .entry)) at r ⌝ }
+{
+    let number = at.number;
+    match kind {
+        Kind::Blank => lines::skip::pass(file, at, true),
+        Kind::Noise => lines::skip::pass(file, at, true),
+        Kind::Other => lines::skip::pass(file, at, true),
+        Kind::Agent(_) => Position {
+            number,
+            place: crate::line::value_end(file, at.place, kind),
+        },
+        Kind::Rule(_, _) => Position {
+            number,
+            place: crate::line::value_end(file, at.place, kind),
+        },
+    }
+}
+
+// After all lines of a file, for those whose groups apply.
+pub fn gather(
+    file: &[u8],
+    audience: Audience,
+    name: &[u8],
+    path: &[u8],
+    scratch: &mut [u8],
+) -> Gathered
+    requires { ⌜ (length (now file) ≤ 512000) × (length (now path) ≤ 6142) × (length (now path) ≤ length (now scratch)) ⌝ }
+    ensures { λ r. ⌜ r ≡ gathered (now (file .entry)) (now (name .entry)) audience (now (path .entry)) ⌝ }
+    ensures { λ _. ⌜ length (now (scratch .exit)) ≡ length (now (scratch .entry)) ⌝ }
+{
+    let mut h = hearing::nothing_heard();
+    let mut c = considering::none_considered();
+    let mut at = crate::line::first_line(file);
+    while at.place.offset < file.len() {
+        let here = at;
+        let start = here.place.offset;
+        let kind = kinds::line::kind_of(&file[start..]);
+        let over = pass_line(file, here, kind);
+        at = crate::line::next_line(over, lines::span::next_place(file, over.place));
+        let Kind::Rule(side, pattern) = kind else {
+            h = hear_other(h, audience, name, file, here.place, kind);
+            continue;
+        };
+        c = consider_rule(c, h.applies, file, here, side, pattern, path, scratch);
+        h = hearing::hear_rule(h, is_unread_rule(side, pattern));
+    }
+    Gathered {
+        considered: c,
+        unread: h.unread,
+    }
+}

@@ -1,4 +1,0 @@
-pub mod Bounds
-pub mod Naming
-mod Stepping
-mod Walking
