@@ -14,14 +14,16 @@ MADE = target conformance/target bindings/rust/target bindings/python/__pycache_
 SOURCES := crates.txt $(shell find crates)
 ROOT = $(DESTDIR)$(PREFIX)
 
-.PHONY: all shared install test clean help tools prefix
+.PHONY: all shared install test quick must-fail figures clean help tools prefix
 
 # two rt must not work in the same folder at a time
 .NOTPARALLEL:
 
 # rt check knows by itself what is up to date; rt staticlib proves the exported functions each time
+# a program that rt leaves as it was gets a new date, by which bin/robots-decide knows it
 all: $(ARCHIVE)
 	rt check robots_decide
+	@touch -c $(PROGRAM)
 	@echo "made $(ARCHIVE) and $(PROGRAM)"
 
 $(ARCHIVE): $(SOURCES) target/rt-version
@@ -53,6 +55,22 @@ install: prefix all shared
 test:
 	./test.sh
 
+# what test.sh runs, but with rt check for rt ci: nothing is proved again that is unchanged, and no edit is tried
+quick:
+	sh conformance/gate/sources.sh
+	rt check
+	sh conformance/gate/tests.sh
+	@echo "make quick: passed; 'make must-fail CRATE=NAME' tries a crate's edits, and 'make test' is the gate"
+
+# the environment keeps what CRATE holds from being read as a command
+export CRATE
+must-fail:
+	@sh conformance/gate/must-fail.sh "$$CRATE"
+
+# the table of crates in docs/PROOFS.md
+figures:
+	@python3 -B conformance/gate/figures.py
+
 clean:
 	rm -rf $(MADE)
 	@echo "removed $(MADE)"
@@ -61,17 +79,22 @@ help:
 	@echo "make                      prove and build $(ARCHIVE) and $(PROGRAM)"
 	@echo "make shared               the same library as $(SHARED)"
 	@echo "make install PREFIX=/usr  install header, library, robots.pc and program; DESTDIR is put before PREFIX"
-	@echo "make test                 run all tests"
+	@echo "make test                 run all tests, as the gate does: every proof from nothing, every must-fail edit"
+	@echo "make quick                rt fmt --check, rt check and all tests but the must-fail edits, in a few minutes"
+	@echo "make must-fail CRATE=walk try the must-fail edits of one crate"
+	@echo "make figures              print functions, lines, edits and seconds of each crate"
 	@echo "make clean                remove what was built"
 
 tools:
 	@for tool in rt $(firstword $(CC)); do \
-	    command -v "$$tool" >/dev/null || { echo "make: $$tool is not installed; see README.md, 'What you need'" >&2; exit 2; }; \
+	    command -v "$$tool" >/dev/null || \
+	        { echo "make: $$tool is not installed; see README.md, 'What you need'" >&2; exit 2; }; \
 	done
 
 # robots.pc names it, so it can neither depend on the folder nor hold what sed or pkg-config reads otherwise
 export PREFIX
 prefix:
 	@case "$$PREFIX" in \
-	    [!/]* | '' | *[!A-Za-z0-9/._+~@-]*) echo "make install: give PREFIX as a whole path of plain letters, such as PREFIX=/usr/local" >&2; exit 2 ;; \
+	    [!/]* | '' | *[!A-Za-z0-9/._+~@-]*) \
+	        echo "make install: give PREFIX as a whole path of plain letters, such as PREFIX=/usr/local" >&2; exit 2 ;; \
 	esac

@@ -1,30 +1,13 @@
 #!/bin/sh
-# Runs every test: the layout of the sources, rt ci (every crate proved from nothing, every must-fail edit refused, every program run), what
-# the refusals of the edits rest on, make install, the header against the library, the tests in Rust, the bindings, the library linked from C and from C++,
-# the examples in C, the header's program, and the README's command. Stops at the first step that fails. The last line is rt ci's own, printed only if every
-# step passed.
-set -u
-cd "$(dirname "$0")" || exit 2
+# Runs every test: what can be said of the sources, rt ci (every crate proved from nothing, every must-fail edit
+# refused, every program run), what the refusals of the edits rest on, and the tests of what is built. Stops at the
+# first step that fails. The last line is rt ci's own, printed only if every step passed.
+cd "$(dirname "$0")" && . conformance/gate/common.sh || exit 2
+no_arguments $# ./test.sh
 
-fail() {
-    echo "test.sh: failed: $1"
-    exit 1
-}
+sh conformance/gate/sources.sh || exit 1
 
-if [ $# -ne 0 ]; then
-    echo "test.sh: it takes no arguments: run ./test.sh" >&2
-    exit 2
-fi
-
-# rustup's own folder may be missing from the search path
-PATH="$PATH:${CARGO_HOME:-${HOME:-}/.cargo}/bin"
-for tool in rt make gcc g++ nm cargo python3; do
-    command -v "$tool" >/dev/null || fail "$tool is not installed; see README.md, 'What you need'"
-done
-
-rt fmt --check || fail "rt fmt --check: run 'rt fmt'"
-
-logs=$(mktemp -d) || fail "mktemp -d"
+logs=$(mktemp -d) || fail "mktemp -d: set TMPDIR to a folder that can be written"
 trap 'rm -rf "$logs"' EXIT
 # the verdict, rt ci's last line, is held back until everything has passed
 { rt ci 2>&1; echo $? >"$logs/status"; } | tee "$logs/ci" | sed '$d'
@@ -35,83 +18,11 @@ case $verdict in
     *) fail "rt ci: $verdict" ;;
 esac
 
-# an edit shows something if a statement fails: not if the edited definition is ill-formed, or a proof only no longer fits the code
-if grep 'must-fail .*(first at specs/' "$logs/ci"; then
-    fail "a must-fail edit is ill-formed; see target/must-fail/"
-fi
-if grep -lsE 'that can be named from here|has no field' target/must-fail/*/*/.log; then
-    fail "a must-fail edit only makes a proof unfit for the code"
-fi
+sh conformance/gate/edits.sh "$logs/ci" || exit 1
+# for make figures
+cp "$logs/ci" target/ci.log || fail "cp to target/ci.log"
 
-# rt ci empties target/, so the library is built after it. What an outer make was told isn't meant for this one
-archive=target/staticlib/librobots.a
-prefix=$logs/prefix
-unset MAKEFLAGS MFLAGS MAKELEVEL
-make install PREFIX="$prefix" DESTDIR= || fail "make install: see the first line above that isn't 'proved', or its message"
-"$prefix/bin/robots_decide" <crates/robots_decide/stdin | cmp - crates/robots_decide/stdout || fail "make install: the installed robots_decide answers otherwise"
-
-sed -n 's/^size_t \(robots_[a-z_]*\)(.*/\1/p' include/robots.h | sort >"$logs/declared"
-# exported_alike LIBRARY NM-OPTION
-exported_alike() {
-    nm "$2" --defined-only "$1" | sed -n 's/^[0-9a-f]* T //p' | sort >"$logs/exported"
-    diff "$logs/exported" "$logs/declared" || fail "include/robots.h: declare what $1 exports (< exported only, > declared only)"
-}
-exported_alike "$archive" -g
-exported_alike target/shared/librobots.so -D
-
-cargo test --manifest-path conformance/Cargo.toml --workspace --offline --locked || fail "cargo test in conformance/"
-cargo test --manifest-path bindings/rust/Cargo.toml --offline --locked || fail "cargo test in bindings/rust/"
-sh conformance/script/test.sh || fail "conformance/script/test.sh: see the failed checks above"
-
-# -B: leave no compiled file behind
-ROBOTS_LIBRARY='' python3 -B bindings/python/test_robots.py || fail "bindings/python/test_robots.py: see the failed tests above"
-
-# compiled SOURCE NAME FLAG...: as C to target/link-test/NAME and as C++ to target/link-test/NAME-c++, as the header serves both
-warnings='-Wall -Wextra -Wpedantic -Werror'
-compiled() {
-    source=$1
-    output=target/link-test/$2
-    shift 2
-    gcc -std=c11 $warnings "$source" "$@" -o "$output" || fail "gcc on $source: see its messages above"
-    g++ -std=c++11 $warnings "$source" "$@" -o "$output-c++" || fail "g++ on $source: see its messages above"
-}
-mkdir -p target/link-test || fail "mkdir -p target/link-test"
-
-compiled conformance/c/link.c checks -Iinclude "$archive"
-for program in checks checks-c++; do
-    "target/link-test/$program" || fail "target/link-test/$program: see the failed checks above"
-done
-
-# the header's program, compiled as a caller of the installed library does: with what pkg-config says, or what it would read
-installed_flags() {
-    if command -v pkg-config >/dev/null; then
-        PKG_CONFIG_PATH="$prefix/lib/pkgconfig" pkg-config --cflags --libs robots
-    else
-        named=$(sed -n 's/^prefix=//p' "$prefix/lib/pkgconfig/robots.pc")
-        sed -n -e "s|\${prefix}|$named|" -e 's/^Cflags: //p' -e 's/^Libs: //p' "$prefix/lib/pkgconfig/robots.pc"
-    fi
-}
-flags=$(installed_flags) && [ -n "$flags" ] || fail "robots.pc.in: the installed robots.pc gives no flags"
-sed -n 's/^ \*     //p' include/robots.h >target/link-test/header.c
-compiled target/link-test/header.c header $flags
-for program in header header-c++; do
-    printed=$("target/link-test/$program")
-    [ $? -eq 1 ] && [ "$printed" = disallow ] || fail "include/robots.h: its program, target/link-test/$program, printed '$printed'"
-done
-
-for example in examples/*.c; do
-    compiled "$example" "$(basename "$example" .c)" -Iinclude "$archive"
-done
-
-# examples/link.c closes its example's path, and opens nothing for a file that can't be read
-printed=$(target/link-test/link)
-[ $? -eq 1 ] && [ "$printed" = 'disallow, by line 2: /sailings/draft' ] || fail "target/link-test/link printed '$printed'"
-printed=$(target/link-test/link drydockbot / target/link-test 2>&1)
-[ $? -eq 2 ] || fail "target/link-test/link, given a folder as its file, printed '$printed'"
-
-# README.md, 'See it work': its command prints what stands there
-told() { sed -n '/^## See it work/,/^## /s/^    //p' README.md; }
-printed=$(sh -c "$(told | head -n 1)" | tail -n 1)
-[ -n "$printed" ] && [ "$printed" = "$(told | tail -n 1)" ] || fail "README.md, 'See it work': its command printed '$printed'"
+# rt ci empties target/, so the library is built after it
+sh conformance/gate/tests.sh || exit 1
 
 echo "$verdict"

@@ -1,15 +1,12 @@
 """Document 01's example, a refusal and a lent buffer, asked through the binding."""
 
 import ctypes
-import pathlib
-import re
 import unittest
 
 import robots
 
 FILE = b"user-agent: *\ndisallow: /sailings/draft\nallow: /sailings\n"
 PATH = b"/sailings/draft/9"
-HEADER = pathlib.Path(__file__).resolve().parents[2] / "include/robots.h"
 
 
 class Deciding(unittest.TestCase):
@@ -77,13 +74,6 @@ class Normalising(unittest.TestCase):
         buffer = bytearray(robots.NORMALISED_MOST)
         self.assertEqual(robots.normalise(b"/" + b"%" * 2047, buffer), 6142)
         self.assertEqual(buffer, b"/" + b"%25" * 2047)
-
-
-class Names(unittest.TestCase):
-    def test_the_headers_names(self):
-        header = HEADER.read_text(encoding="ascii")
-        rows = re.findall(r"ROBOTS_(?:REFUSED_)?(\w+) = (\d)\b.*/\*", header.split("enum robots_kind")[0])
-        self.assertEqual(rows, [(name, str(number.value)) for name, number in robots.Refusal.__members__.items()])
 
 
 if __name__ == "__main__":

@@ -76,7 +76,7 @@ impl Error for Refusal {}
 pub fn decide(file: &[u8], name: &[u8], path: &[u8]) -> Result<Decision, Refusal> {
     let number = decide_refusal(file, name, path);
     if number != 0 {
-        return Err(Refusal::from_number(number).expect("refusals are numbered 1 to 9"));
+        return Err(Refusal::from_number(number).expect("each number has its refusal"));
     }
     Ok(Decision {
         disallow: decide_disallow(file, name, path) != 0,
