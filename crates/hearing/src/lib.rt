@@ -1,4 +1,5 @@
-// Whose group this is, and how many lines are unread, after some agent and rule lines: each is known by its role and its value's octets.
+// Whose group this is, and how many lines are unread, after some agent and rule lines: of each it is known whether it is unreadable, and of an
+// agent line its value's octets.
 
 ghost use mathlib.Core.Path.{_≡_};
 ghost use mathlib.Core.Bool.{_&&_, _||_};

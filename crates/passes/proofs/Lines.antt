@@ -37,6 +37,10 @@ use Rattle.considering.proofs.Weighs.{empty-unreadable}
 use Rattle.passes.specs.Steps.{Room}
 use Rattle.passes.specs.Entries.{lineValue, valueEnd, entryAt, ruleHeard}
 
+pub octets-most : (l : List ℕ) (p : Place) (n : ℕ) → length (octetsAt l p n) ≤ n
+unfolding octetsAt
+octets-most l p n = simp (length-take) (omega arith)
+
 module _ (file : List ℕ) (p : Place) (h : p .offset ≤ length file) where
   abbrev text : List ℕ
   text = textAt file p
@@ -144,9 +148,8 @@ module _ (file path : List ℕ) (at : Position) (side : Side) (pattern : Pattern
     pattern-read = let e : start + n - start ≡ n = omega arith in rw e
 
     pub pattern-room : (scratch : List ℕ) → Room file path scratch (at .place) c → Fits (take (start + n - start) (drop start file)) path scratch c
-    unfolding octetsAt
     pattern-room scratch room =
-        let size : length (octetsAt file (placeAt start) n) ≤ n = simp (length-take) (omega arith) in
+        let size : length (octetsAt file (placeAt start) n) ≤ n = octets-most file (placeAt start) n in
         rw pattern-read
         (record {
           short = room .short;

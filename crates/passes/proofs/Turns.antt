@@ -7,7 +7,7 @@ use mathlib.Core.Option.{none, some}
 use native.Mathlib.Omega.{arith}
 use types.Run.{OneOf, miss}
 use denote.Enum.Declared.{tagOf}
-use lib.ListN.{length, drop, length-take}
+use lib.ListN.{length, drop}
 use Rattle.lists.specs.Lists.{any}
 use Rattle.lists.proofs.Bools.{split, one-at-most}
 use Rattle.protocol.specs.declared.LineNumber.{LineNumber}
@@ -18,7 +18,6 @@ use Rattle.protocol.specs.declared.Agent.{Agent}
 use Rattle.protocol.specs.declared.Pattern.{Pattern}
 use Rattle.protocol.specs.declared.Kind.{Kind}
 use Rattle.protocol.specs.declared.Audience.{Audience}
-use Rattle.protocol.specs.Text.{octetsAt}
 use Rattle.protocol.specs.Lines.{Line, line, lineNumber, placeAt, skipped, numberAfter, lineText, linesFrom}
 use Rattle.protocol.specs.Readable.{everyone, readablePattern}
 use Rattle.protocol.specs.Kinds.{kindOf, placeOf, lengthOf, unreadableKind}
@@ -43,7 +42,7 @@ use Rattle.passes.specs.Steps.{linesPast, PassedLine}
 use Rattle.passes.proofs.Gathering.{gathered-all}
 use Rattle.passes.proofs.Groups.{some-line-names}
 use Rattle.passes.proofs.Heads.{isAgent, no-agent-named, first-no-agent, first-idle, idle-role}
-use Rattle.passes.proofs.Lines.{value-end-inside, agent-unread, rule-unread}
+use Rattle.passes.proofs.Lines.{octets-most, value-end-inside, agent-unread, rule-unread}
 
 -- the lines from a position on
 abbrev linesOn : List ℕ → Position → List Line
@@ -207,16 +206,13 @@ other-unread file who p (Kind.Rule side q) h = omega arith
 -- and at most 18,426 pairs for each octet of its value to those compared
 rule-compared : (file path : List ℕ) → length path ≤ 6_142 → (c : Considered) (applies : Bool) (side : Side) (e : Entry)
     → consideredAll file path c (ruleHeard file applies (rule side) e) .compared ≤ c .compared + 18_426 * e .length
-unfolding consideredAll ruleHeard octetsAt
+unfolding consideredAll ruleHeard
 rule-compared file path short c applies side e =
     split (applies && readablePattern (valueOf file e))
     (λ b.
     let few : length (valueOf file e) ≤ e .length = octets-most file (e .place) (e .length) in
     rw b (omega (arith, few, considered-most (valueOf file e) path short (ruleOf side e) c)))
     (λ b. rw b (omega arith))
-  where
-    octets-most : (l : List ℕ) (p : Place) (n : ℕ) → length (octetsAt l p n) ≤ n
-    octets-most l p n = simp (length-take) (omega arith)
 
 -- what holds where the loop has come to p: what is left gives the whole, and the numbers are bounded by the place
 pub record Reached (file who path scratch₀ scratch : List ℕ) (heard : Hearing) (c : Considered) (p : Position) (g : Gathered) : Type 0 where

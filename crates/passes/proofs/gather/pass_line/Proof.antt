@@ -1,9 +1,15 @@
 -- `passes::gather::pass_line` meets its contract. Assumes nothing.
-use mathlib.Core.Path.{ap}
+use Prim.Native.Nat.{ℕ}
+use mathlib.Core.Path.{_≡_, refl, ap, _∙_}
+use mathlib.Core.Bool.{true}
+use mathlib.Core.List.{List}
 use borrow.Author.Needs.{needs}
-use Rattle.protocol.specs.declared.Place.{Place}
+use Rattle.protocol.specs.declared.Position.{Position}
 use Rattle.protocol.specs.declared.Kind.{Kind}
 use Rattle.protocol.specs.Kinds.{placeOf, lengthOf}
+use Rattle.lines.specs.Skips.{PassedFrom}
+use Rattle.passes.specs.Entries.{valueEnd}
+use Rattle.passes.specs.Steps.{PassedLine}
 use Rattle.passes.proofs.Turns.{passed-blocks, passed-value}
 use Rattle.passes.proofs.gather.pass_line.Statement.{statement}
 use Rattle.passes.proofs.gather.pass_line.Tie as tie
@@ -38,33 +44,32 @@ enum-told-5 c = search needs
 value-end-requires-2 : tie.Need-value-end-requires-2
 value-end-requires-2 c κs = search needs
 
+-- an arm that passes over many lines, and one that goes on behind the value
+module _ (s : tie.Start) (r : Position) where
+  abbrev file : List ℕ
+  file = s .args .file .now
+
+  blocks : PassedFrom true file (s .args .at) r → (k : Kind) → s .args .kind ≡ k → placeOf k .offset ≡ 0 → lengthOf k ≡ 0 → PassedLine file (s .args .at) r
+  blocks past k told z w =
+      passed-blocks file (s .args .at) (s .pre .0) (s .pre .1) (s .args .kind) (s .pre .2) r past (ap (λ (k : Kind). placeOf k .offset) told ∙ z) (ap lengthOf told ∙ w)
+
+  value : r ≡ record { number = s .args .at .number; place = valueEnd (s .args .at .place) (s .args .kind) } → PassedLine file (s .args .at) r
+  value = passed-value file (s .args .at) (s .pre .0) (s .pre .1) (s .args .kind) (s .pre .2) r
+
 returns : tie.Need-returns
-returns c =
-    let s = c .before .before .before .before .before in
-    let told = c .before .enum-told .given .1 in
-    passed-blocks (s .args .file .now) (s .args .at) (s .pre .0) (s .pre .1) (s .args .kind) (s .pre .2) (c .pass .result) (c .pass .ensures) (ap (λ (k : Kind). placeOf k .offset) told) (ap lengthOf told)
+returns c = blocks (c .before .before .before .before .before) _ (c .pass .ensures) Kind.Blank (c .before .enum-told .given .1) refl refl
 
 returns-2 : tie.Need-returns-2
-returns-2 c =
-    let s = c .before .before .before .before .before in
-    let told = c .before .enum-told2 .given .1 in
-    passed-blocks (s .args .file .now) (s .args .at) (s .pre .0) (s .pre .1) (s .args .kind) (s .pre .2) (c .pass2 .result) (c .pass2 .ensures) (ap (λ (k : Kind). placeOf k .offset) told) (ap lengthOf told)
+returns-2 c = blocks (c .before .before .before .before .before) _ (c .pass2 .ensures) Kind.Noise (c .before .enum-told2 .given .1) refl refl
 
 returns-3 : tie.Need-returns-3
-returns-3 c =
-    let s = c .before .before .before .before .before in
-    let told = c .before .enum-told3 .given .1 in
-    passed-blocks (s .args .file .now) (s .args .at) (s .pre .0) (s .pre .1) (s .args .kind) (s .pre .2) (c .pass3 .result) (c .pass3 .ensures) (ap (λ (k : Kind). placeOf k .offset) told) (ap lengthOf told)
+returns-3 c = blocks (c .before .before .before .before .before) _ (c .pass3 .ensures) Kind.Other (c .before .enum-told3 .given .1) refl refl
 
 returns-4 : tie.Need-returns-4
-returns-4 c =
-    let s = c .before .before .before .before .before in
-    passed-value (s .args .file .now) (s .args .at) (s .pre .0) (s .pre .1) (s .args .kind) (s .pre .2) _ (ap (λ (q : Place). record { number = s .args .at .number; place = q }) (c .value-end .ensures))
+returns-4 c = value (c .before .before .before .before .before) _ (rw (c .value-end .ensures))
 
 returns-5 : tie.Need-returns-5
-returns-5 c =
-    let s = c .before .before .before .before .before in
-    passed-value (s .args .file .now) (s .args .at) (s .pre .0) (s .pre .1) (s .args .kind) (s .pre .2) _ (ap (λ (q : Place). record { number = s .args .at .number; place = q }) (c .value-end2 .ensures))
+returns-5 c = value (c .before .before .before .before .before) _ (rw (c .value-end2 .ensures))
 
 pub pass-line-spec : {M : Type 1} → statement M
 pass-line-spec =
