@@ -65,7 +65,10 @@ enum robots_refusal {
     ROBOTS_REFUSED_LINES = 9        /* line holds CR or LF */
 };
 
-/* The kinds of lines. */
+/*
+ * The kinds of lines. A readable pattern begins with "/" or "*"; the rest is
+ * told below, with one pattern against one path.
+ */
 enum robots_kind {
     ROBOTS_KIND_REFUSED = 0,             /* no kind: see robots_line_refusal */
     ROBOTS_KIND_BLANK = 1,               /* empty, spaces, or a comment only */
@@ -253,9 +256,10 @@ size_t robots_line_length(const uint8_t *line, size_t line_length);
  * stands for any number of octets of the normalised path, none included, and
  * may stop inside a %XX. "$" as the last octet is the end mark. All else
  * stands for itself; %61 is "a", but %2F isn't "/". A pattern is readable if
- * it begins with "/" and is UTF-8 that holds neither "#" nor an octet under
- * 0x21. The path is given raw too, with its query if any. Both are normalised
- * before they are compared. /robots.txt is a path like others here.
+ * it begins with "/" or "*" and is UTF-8 that holds neither "#" nor an octet
+ * under 0x21: so "*.gif$" is, and "gif" and "$" aren't. The path is given raw
+ * too, with its query if any. Both are normalised before they are compared.
+ * /robots.txt is a path like others here.
  */
 
 /*

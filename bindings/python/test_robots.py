@@ -1,4 +1,4 @@
-"""Document 01's example, a refusal and a lent buffer, asked through the binding."""
+"""Document 01's example, M-102's, a refusal and a lent buffer, asked through the binding."""
 
 import ctypes
 import unittest
@@ -14,6 +14,10 @@ class Deciding(unittest.TestCase):
         decision = robots.decide(FILE, b"drydockbot", PATH)
         self.assertEqual(decision, (0, True, 2, 24, 15, 0, 24))
         self.assertEqual(FILE[24 : 24 + 15], b"/sailings/draft")
+
+    def test_m_102s_example(self):
+        file = b"user-agent: *\ndisallow: *.gif$"
+        self.assertEqual(robots.decide(file, b"a", b"/x.gif"), (0, True, 2, 24, 6, 0, 4))
 
     def test_a_name_with_a_space_is_refused(self):
         """"A refused decision holds its number, disallow, and zeros." """

@@ -76,6 +76,8 @@ static const struct decide_row decide_rows[] = {
     {{TEXT("user-agent: *\ndisallow: /path/foo-%24")}, {TEXT("a")}, {TEXT("/path/foo-$")}, ROBOTS_ANSWERED, 1, 2, 24, {TEXT("/path/foo-%24")}, 0, 13},
     {{TEXT("user-agent: a\nsitemap: x\nuser-agent: b\ndisallow: /")}, {TEXT("a")}, {TEXT("/")}, ROBOTS_ANSWERED, 1, 4, 49, {TEXT("/")}, 0, 1},
     {{TEXT("user-agent: a\ndisallow: x\nuser-agent: b\ndisallow: /")}, {TEXT("a")}, {TEXT("/")}, ROBOTS_ANSWERED, NO_RULE(1, 0)},
+    /* M-102's row of that table */
+    {{TEXT("user-agent: *\ndisallow: *.gif$")}, {TEXT("a")}, {TEXT("/x.gif")}, ROBOTS_ANSWERED, 1, 2, 24, {TEXT("*.gif$")}, 0, 4},
     /* document 01's program */
     {{TEXT("user-agent: *\ndisallow: /sailings/draft\nallow: /sailings\n")}, {TEXT("drydockbot")}, {TEXT("/sailings/draft/9")}, ROBOTS_ANSWERED, 1, 2, 24, {TEXT("/sailings/draft")}, 0, 24},
     /* "those three octets are skipped but keep their places" */
@@ -88,6 +90,9 @@ static const struct decide_row decide_rows[] = {
     {{TEXT("user-agent: a\nuser-agent: A\nallow: /\nuser-agent: *\nallow: /x/y\nuser-agent: a\ndisallow: /x")}, {TEXT("a")}, {TEXT("/x/y")}, ROBOTS_ANSWERED, 1, 7, 87, {TEXT("/x")}, 0, 3},
     /* "allow before disallow at equal weight, then the earliest line" */
     {{TEXT("user-agent: a\ndisallow: /x\nallow: /*\nallow: /x")}, {TEXT("a")}, {TEXT("/x")}, ROBOTS_ANSWERED, 0, 3, 34, {TEXT("/*")}, 0, 5},
+    /* "*" weighs 1 and compares nothing; "$" begins no readable pattern */
+    {{TEXT("user-agent: a\ndisallow: /\nallow: *")}, {TEXT("a")}, {TEXT("/x")}, ROBOTS_ANSWERED, 0, 3, 33, {TEXT("*")}, 0, 1},
+    {{TEXT("user-agent: a\nallow: $*\ndisallow: *")}, {TEXT("a")}, {TEXT("/x")}, ROBOTS_ANSWERED, 1, 3, 34, {TEXT("*")}, 1, 0},
     /* "/robots.txt?x isn't that path" */
     {{TEXT("user-agent: *\ndisallow: /")}, {TEXT("a")}, {TEXT("/robots.txt?x")}, ROBOTS_ANSWERED, 1, 2, 24, {TEXT("/")}, 0, 1},
     /* "The unread count is the number of unreadable agent and rule lines in the whole file." */
@@ -111,8 +116,11 @@ static const struct line_row line_rows[] = {
     {{TEXT("allow: /this/*/exactly")}, ROBOTS_ANSWERED, ROBOTS_KIND_ALLOW_READABLE, 7, 15},
     {{TEXT("sitemap: https://www.example.com/sitemap.xml")}, ROBOTS_ANSWERED, ROBOTS_KIND_OTHER, 0, 0},
     {{TEXT("Disallow:/")}, ROBOTS_ANSWERED, ROBOTS_KIND_DISALLOW_READABLE, 9, 1},
-    /* "Readable: begins with "/"" */
-    {{TEXT("Disallow: *.gif$")}, ROBOTS_ANSWERED, ROBOTS_KIND_DISALLOW_UNREADABLE, 10, 6},
+    /* "a readable pattern begins with "/" or "*"" (M-102) */
+    {{TEXT("Disallow: *.gif$")}, ROBOTS_ANSWERED, ROBOTS_KIND_DISALLOW_READABLE, 10, 6},
+    {{TEXT("Disallow: *")}, ROBOTS_ANSWERED, ROBOTS_KIND_DISALLOW_READABLE, 10, 1},
+    {{TEXT("Disallow: $")}, ROBOTS_ANSWERED, ROBOTS_KIND_DISALLOW_UNREADABLE, 10, 1},
+    {{TEXT("Disallow: .gif$")}, ROBOTS_ANSWERED, ROBOTS_KIND_DISALLOW_UNREADABLE, 10, 5},
     /* the search firm's page */
     {{TEXT("user-agent:googlebot#optional-comment")}, ROBOTS_ANSWERED, ROBOTS_KIND_AGENT_READABLE, 11, 9},
     {{TEXT(" \tdisallow: /fish\t ")}, ROBOTS_ANSWERED, ROBOTS_KIND_DISALLOW_READABLE, 12, 5},
@@ -145,6 +153,7 @@ static const struct line_row line_rows[] = {
     {{TEXT("allow: /\xE3\x83")}, ROBOTS_ANSWERED, ROBOTS_KIND_ALLOW_UNREADABLE, 7, 3},
     {{TEXT("allow: /\xED\xA0\x80")}, ROBOTS_ANSWERED, ROBOTS_KIND_ALLOW_UNREADABLE, 7, 4},
     {{TEXT("allow: /\xC0\xAF")}, ROBOTS_ANSWERED, ROBOTS_KIND_ALLOW_UNREADABLE, 7, 3},
+    {{TEXT("allow: *\xC0\xAF")}, ROBOTS_ANSWERED, ROBOTS_KIND_ALLOW_UNREADABLE, 7, 3},
     /* "No leading mark is skipped here." */
     {{TEXT("\xEF\xBB\xBF" "allow: /")}, ROBOTS_ANSWERED, ROBOTS_KIND_OTHER, 0, 0},
     /* "line holds CR or LF" */
@@ -200,6 +209,12 @@ static const struct match_row match_rows[] = {
     {{TEXT("/*.php$")}, {TEXT("/filename.php5")}, ROBOTS_ANSWERED, 0, 2},
     {{TEXT("/path/foo-%24")}, {TEXT("/path/foo-$")}, ROBOTS_ANSWERED, 1, 13},
     {{TEXT("/sailings/draft")}, {TEXT("/sailings/draft/9")}, ROBOTS_ANSWERED, 1, 15},
+    /* "a readable pattern begins with "/" or "*"" (M-102); the first row is its own */
+    {{TEXT("*.gif$")}, {TEXT("/x.gif")}, ROBOTS_ANSWERED, 1, 4},
+    {{TEXT("*.gif$")}, {TEXT("/x.gif/")}, ROBOTS_ANSWERED, 0, 1},
+    {{TEXT("*")}, {TEXT("/x")}, ROBOTS_ANSWERED, 1, 0},
+    {{TEXT("*$")}, {TEXT("/x")}, ROBOTS_ANSWERED, 1, 0},
+    {{TEXT("*x")}, {TEXT("/x")}, ROBOTS_ANSWERED, 1, 2},
     /* "/robots.txt has no special standing here." */
     {{TEXT("/")}, {TEXT("/robots.txt")}, ROBOTS_ANSWERED, 1, 1},
     /* "The first run is tried at 0 only." */
@@ -234,7 +249,9 @@ static const struct match_row match_rows[] = {
     {{TEXT("/#")}, {TEXT("/#")}, ROBOTS_REFUSED_PATH_OCTET, 0, 0},
     {{TEXT("/")}, {TEXT("/\0")}, ROBOTS_REFUSED_PATH_OCTET, 0, 0},
     {{TEXT("")}, {TEXT("/")}, ROBOTS_REFUSED_PATTERN, 0, 0},
-    {{TEXT("*.gif$")}, {TEXT("/image.gif")}, ROBOTS_REFUSED_PATTERN, 0, 0},
+    {{TEXT(".gif$")}, {TEXT("/image.gif")}, ROBOTS_REFUSED_PATTERN, 0, 0},
+    {{TEXT("$")}, {TEXT("/")}, ROBOTS_REFUSED_PATTERN, 0, 0},
+    {{TEXT("*\xC3")}, {TEXT("/\xC3")}, ROBOTS_REFUSED_PATTERN, 0, 0},
     {{TEXT("/#")}, {TEXT("/")}, ROBOTS_REFUSED_PATTERN, 0, 0},
     {{TEXT("/\0")}, {TEXT("/")}, ROBOTS_REFUSED_PATTERN, 0, 0},
     {{TEXT("/\xC3")}, {TEXT("/\xC3")}, ROBOTS_REFUSED_PATTERN, 0, 0},

@@ -118,7 +118,7 @@ answers 'the example on standard input, as -' 1 "$example" "$ask" drydockbot /sa
 answers 'the example through a pipe' 1 "$example" sh -c '{ head -n 1; cat; } <"$2" | "$1" drydockbot /sailings/draft/9' sh "$ask" "$room/example"
 answers 'a file, and not standard input' 0 "$nothing" "$ask" a /x "$room/empty" <"$room/closed"
 
-# ---- the harbour table: name, path, file, status, answer
+# ---- the harbour table, with M-102's row: name, path, file, status, answer
 
 rows=0
 while IFS=';' read -r name path file due line; do
@@ -137,8 +137,9 @@ a;/filename.php5;user-agent: *|disallow: /*.php$;0;allow line 0 unread 0 compare
 a;/path/foo-$;user-agent: *|disallow: /path/foo-%24;1;disallow line 2 unread 0 compared 13
 a;/;user-agent: a|sitemap: x|user-agent: b|disallow: /;1;disallow line 4 unread 0 compared 1
 a;/;user-agent: a|disallow: x|user-agent: b|disallow: /;0;allow line 0 unread 1 compared 0
+a;/x.gif;user-agent: *|disallow: *.gif$;1;disallow line 2 unread 0 compared 4
 END
-check 'every row was asked, so none was read as the file' [ "$rows" -eq 11 ]
+check 'every row was asked, so none was read as the file' [ "$rows" -eq 12 ]
 
 # ---- refusals, and what is just inside
 
@@ -191,6 +192,8 @@ closes '/%s%d' '/%s%d' 9
 closes '/a\n\0101\\' '/a\n\0101\\' 11
 closes '/\c' '/\c' 3
 closes '/%2A' '/*' 4
+closes '*' '/*' 0
+closes '*%2A' '/*' 4
 closes "/'\"" "/'\"" 3
 # shellcheck disable=SC2016
 closes '/%24HOME' '/$HOME' 8

@@ -1,4 +1,4 @@
-//! Document 01's example and a refusal, asked through the binding.
+//! Document 01's example, M-102's and a refusal, asked through the binding.
 
 use robots::{Decision, Refusal};
 
@@ -31,6 +31,20 @@ fn document_01s_example() {
     assert_eq!(robots::decide(FILE, b"drydockbot", PATH), Ok(expected));
     assert_eq!(numbers(b"drydockbot"), [0, 1, 2, 24, 15, 0, 24]);
     assert_eq!(&FILE[24..24 + 15], b"/sailings/draft");
+}
+
+#[test]
+fn m_102s_example() {
+    let file = b"user-agent: *\ndisallow: *.gif$";
+    let expected = Decision {
+        disallow: true,
+        line: 2,
+        place: 24,
+        length: 6,
+        unread: 0,
+        compared: 4,
+    };
+    assert_eq!(robots::decide(file, b"a", b"/x.gif"), Ok(expected));
 }
 
 /// "A refused decision holds its number, disallow, and zeros."

@@ -250,8 +250,8 @@ fn rule(side: Side, line: &[u8], pattern: Span) -> Kind {
     }
 }
 
-/// "Readable: begins with "/", and is well-formed by the RFC's
-/// UTF8-char-noctl rule".
+/// "From now on a readable pattern begins with "/" or "*"" (document 02,
+/// M-102), "and is well-formed by the RFC's UTF8-char-noctl rule".
 pub(crate) fn is_readable_pattern(octets: &[u8]) -> bool {
-    octets.first() == Some(&b'/') && utf8::is_chars_noctl(octets)
+    matches!(octets, [b'/' | b'*', ..]) && utf8::is_chars_noctl(octets)
 }

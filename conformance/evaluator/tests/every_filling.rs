@@ -1,7 +1,7 @@
 //! Matching compared with fillings that are really tried out, one by one.
 
 use evaluator::match_pattern;
-use generator::{after_slash, strings};
+use generator::{after_slash, after_slash_or_star, strings};
 
 /// The normalised form of a pattern over "/", letters, "*" and "$": its parts
 /// between the stars, and whether there is an end mark.
@@ -20,7 +20,8 @@ fn parts(pattern: &[u8]) -> (Vec<Vec<u8>>, bool) {
 }
 
 /// "some filling of its stars gives a beginning of the path, or all of it
-/// where there is an end mark": every star is filled with every filling.
+/// where there is an end mark": every star is filled with every filling, but
+/// what is no beginning of the path isn't lengthened.
 fn some_filling(pattern: &[u8], path: &[u8], fillings: &[Vec<u8>]) -> bool {
     let (parts, end_mark) = parts(pattern);
     let filled = parts[0].clone();
@@ -34,12 +35,11 @@ fn try_fillings(
     path: &[u8],
     fillings: &[Vec<u8>],
 ) -> bool {
+    if !path.starts_with(&filled) {
+        return false;
+    }
     let Some((part, later)) = parts.split_first() else {
-        return if end_mark {
-            filled == path
-        } else {
-            path.starts_with(&filled)
-        };
+        return !end_mark || filled == path;
     };
     fillings.iter().any(|filling| {
         let longer = [filled.as_slice(), filling, part].concat();
@@ -48,14 +48,15 @@ fn try_fillings(
 }
 
 /// Every pattern of up to four octets with every path of up to four, filled
-/// with every string of up to three octets.
+/// with every string of up to four octets: a star at the beginning may stand
+/// for the whole path.
 #[test]
 fn every_small_pattern_with_every_string() {
-    let fillings = strings(b"/ab", 3);
+    let fillings = strings(b"/ab", 4);
     let paths = after_slash(b"/ab", 3);
     let mut yes = 0;
     let mut no = 0;
-    for pattern in after_slash(b"/ab*$", 3) {
+    for pattern in after_slash_or_star(b"/ab*$", 3) {
         for path in &paths {
             let answer = match_pattern(&pattern, path);
             let expected = some_filling(&pattern, path, &fillings);
@@ -90,8 +91,8 @@ fn stretches(path: &[u8]) -> Vec<Vec<u8>> {
 #[test]
 fn every_pattern_of_six_with_every_stretch() {
     let stars = |pattern: &[u8]| pattern.iter().filter(|octet| **octet == b'*').count();
-    let mut patterns = after_slash(b"ab*$", 5);
-    patterns.retain(|pattern| stars(pattern) <= 3);
+    let mut patterns = after_slash_or_star(b"ab*$", 5);
+    patterns.retain(|pattern| stars(pattern) <= 4);
     for path in after_slash(b"ab", 4) {
         let fillings = stretches(&path);
         for pattern in &patterns {

@@ -21,21 +21,24 @@ fn path_of(length: usize, octet: u8) -> Vec<u8> {
 
 #[test]
 fn one_pattern_fills_the_file() {
-    let mut file = [HEAD, b"disallow:/"].concat();
-    file.resize(MOST_OCTETS, b'*');
-    for path in [b"/".to_vec(), path_of(2_048, b'%')] {
-        assert_eq!(
-            decide(&file, b"a", &path),
-            Decision {
-                refusal: 0,
-                disallow: true,
-                line: 2,
-                place: 22,
-                length: 511_978,
-                unread: 0,
-                compared: 1,
-            }
-        );
+    // Only a "/" before the stars is compared.
+    for (first, compared) in [(b"/", 1), (b"*", 0)] {
+        let mut file = [HEAD, b"disallow:", first].concat();
+        file.resize(MOST_OCTETS, b'*');
+        for path in [b"/".to_vec(), path_of(2_048, b'%')] {
+            assert_eq!(
+                decide(&file, b"a", &path),
+                Decision {
+                    refusal: 0,
+                    disallow: true,
+                    line: 2,
+                    place: 22,
+                    length: 511_978,
+                    unread: 0,
+                    compared,
+                }
+            );
+        }
     }
 }
 
@@ -86,6 +89,17 @@ fn dear_rules() {
     let decision = decide(&file, b"a", &path_of(2_048, b'a'));
     assert!(!decision.disallow);
     assert_eq!(decision.compared, 493 * (1 + 1_023 * 1_025));
+}
+
+#[test]
+fn dear_rules_that_begin_with_a_star() {
+    // The run is tried at 0 too: one pair, for the "/".
+    let line = [b"disallow:*".as_slice(), &[b'a'; 1_024], b"b\n"].concat();
+    let (file, times) = filled(&line);
+    assert_eq!(times, 494);
+    let decision = decide(&file, b"a", &path_of(2_048, b'a'));
+    assert!(!decision.disallow);
+    assert_eq!(decision.compared, 494 * (1 + 1_023 * 1_025));
 }
 
 #[test]

@@ -39,10 +39,12 @@ fn kind(line: &[u8]) -> (usize, usize, usize) {
     (kind, place, length)
 }
 
+/// A line; kind, place and length.
+type KindCase = (&'static [u8], (usize, usize, usize));
+
 #[test]
 fn kinds_of_lines() {
-    type Case = (&'static [u8], (usize, usize, usize));
-    let cases: [Case; 43] = [
+    let cases: [KindCase; 42] = [
         (b"", (1, 0, 0)),
         (b" \t ", (1, 0, 0)),
         (b"# user-agent: a", (1, 0, 0)),
@@ -75,7 +77,6 @@ fn kinds_of_lines() {
         (b"ALLOW : /a:b*$ # c", (7, 8, 6)),
         (b"allow: /\x7F", (7, 7, 2)),
         (b"allow: /\xC3\xA9", (7, 7, 3)),
-        (b"allow: *.gif$", (8, 7, 6)),
         (b"allow: /a b", (8, 7, 4)),
         (b"allow: /\xC3", (8, 7, 2)),
         (b"disallow: ", (9, 0, 0)),
@@ -86,6 +87,29 @@ fn kinds_of_lines() {
         (b"disallow:/\xED\xA0\x80", (11, 9, 4)),
         (b"disallow:/\xC0\xAF", (11, 9, 3)),
         (b"disallow:/\x00", (11, 9, 2)),
+    ];
+    for (line, expected) in cases {
+        assert_eq!(kind(line), expected, "{}", String::from_utf8_lossy(line));
+    }
+}
+
+/// "a readable pattern begins with "/" or "*"" (document 02, M-102).
+#[test]
+fn kinds_of_rules_that_begin_with_a_star() {
+    let cases: [KindCase; 13] = [
+        (b"allow: *.gif$", (7, 7, 6)),
+        (b"allow:*", (7, 6, 1)),
+        (b"allow: * # x", (7, 7, 1)),
+        (b"allow: **\xC3\xA9", (7, 7, 4)),
+        (b"allow: $", (8, 7, 1)),
+        (b"allow: $*", (8, 7, 2)),
+        (b"allow: %2A", (8, 7, 3)),
+        (b"allow: *\xC3", (8, 7, 2)),
+        (b"disallow: *$\t", (10, 10, 2)),
+        (b"disallow: $/", (11, 10, 2)),
+        (b"disallow: .*", (11, 10, 2)),
+        (b"disallow: *a b", (11, 10, 4)),
+        (b"disallow:*\x00", (11, 9, 2)),
     ];
     for (line, expected) in cases {
         assert_eq!(kind(line), expected, "{}", String::from_utf8_lossy(line));
@@ -162,6 +186,68 @@ fn end_marks() {
     check(b"/a$b", b"/a$bc", true, 6);
     check(b"/a$*", b"/a$", true, 5);
     check(b"/$a", b"/", false, 0);
+}
+
+/// The first run is empty and costs nothing; the next one is a later run.
+#[test]
+fn patterns_that_begin_with_a_star() {
+    let check = |pattern: &str, path: &str, found: bool, compared: usize| {
+        let answer = match_pattern(pattern.as_bytes(), path.as_bytes());
+        assert_eq!((answer.refusal, answer.found), (0, found), "{pattern}");
+        assert_eq!(answer.compared, compared, "{pattern} {path}");
+    };
+    // All runs are empty.
+    for pattern in ["*", "**", "*$", "**$", "***"] {
+        check(pattern, "/", true, 0);
+        check(pattern, "/a*b$", true, 0);
+    }
+    check("*/", "/a", true, 1);
+    // "a" at 0, 1 and 2
+    check("*a", "/ba", true, 3);
+    check("**a*", "/ba", true, 3);
+    // "a" at 0; at 1 it would pass
+    check("*a", "/", false, 1);
+    check("*ab", "/", false, 0);
+    // only at 2, at 3, and under 0
+    check("*.gif$", "/x.gif", true, 4);
+    check("*.gif$", "/x.gifs", false, 1);
+    check("*.gif$", "/x", false, 0);
+    // at 0 too: the run isn't the first one
+    check("*/x$", "/x", true, 2);
+    check("*/x$", "//x", true, 2);
+    // "%24" at 0 costs 1, at 1 costs 3; with an end mark only at 1
+    check("*$*", "/$", true, 4);
+    check("*$$", "/$", true, 3);
+    // "%2A" is no star
+    check("*%2A", "/*", true, 4);
+    check("*%2A", "/a", false, 0);
+    // inside an escape: "2A" at 0 and 1 costs 1 each, at 2 costs 2
+    check("*2A", "/*", true, 4);
+}
+
+#[test]
+fn deciding_by_a_pattern_that_begins_with_a_star() {
+    // "*" weighs 1, as "/" does; then allow goes first.
+    let file = lines("user-agent: a|disallow: *|allow: /");
+    assert_eq!(answer(&file, "a", "/x"), (false, 3, 0, 1));
+    let file = lines("user-agent: a|disallow: /|allow: *");
+    assert_eq!(answer(&file, "a", "/x"), (false, 3, 0, 1));
+    // "*$" and "**" weigh 2, "/*" too.
+    let file = lines("user-agent: a|allow: *|disallow: *$");
+    assert_eq!(answer(&file, "a", "/x"), (true, 3, 0, 0));
+    let file = lines("user-agent: a|disallow: /*|disallow: **|allow: *");
+    assert_eq!(answer(&file, "a", "/x"), (true, 2, 0, 1));
+    // "*.gif$" weighs 6, "/x.gi" weighs 5 and "/x.gif" 6.
+    let file = lines("user-agent: a|allow: /x.gi|disallow: *.gif$");
+    assert_eq!(answer(&file, "a", "/x.gif"), (true, 3, 0, 5 + 4));
+    let file = lines("user-agent: a|allow: /x.gif|disallow: *.gif$");
+    assert_eq!(answer(&file, "a", "/x.gif"), (false, 2, 0, 6 + 4));
+    // "$" begins no pattern, and the unreadable ones are counted.
+    let file = lines("user-agent: a|disallow: $|disallow: $*|disallow: *\u{1}|disallow: *");
+    assert_eq!(answer(&file, "a", "/x"), (true, 5, 3, 0));
+    let file = lines("user-agent: *|disallow: *");
+    assert_eq!(answer(&file, "a", "/robots.txt"), (false, 0, 0, 0));
+    assert_eq!(answer(&file, "a", "/robots.txt?x"), (true, 2, 0, 0));
 }
 
 #[test]
@@ -362,6 +448,9 @@ fn an_unreadable_rule_divides_groups() {
         "disallow:",
         "allow:",
         "allow: /\u{1}",
+        "allow: *\u{1}",
+        "disallow: $",
+        "allow: $*",
     ] {
         let text = format!("user-agent: a|{rule}|user-agent: b|disallow: /");
         let decision = decide(&lines(&text), b"a", b"/");

@@ -158,6 +158,15 @@ fn match_length_of_the_pattern() {
             compared: 1
         }
     );
+    // Nothing but stars costs nothing.
+    assert_eq!(
+        match_pattern(&vec![b'*'; MOST_OCTETS], b"/"),
+        Matched {
+            refusal: 0,
+            found: true,
+            compared: 0
+        }
+    );
     // A run longer than the path costs nothing.
     assert_eq!(
         match_pattern(&path_of(MOST_OCTETS, b'/'), b"/"),
@@ -169,6 +178,10 @@ fn match_length_of_the_pattern() {
     );
     assert_eq!(
         match_pattern(&path_of(MOST_OCTETS + 1, b'*'), b"/"),
+        refused_match(1)
+    );
+    assert_eq!(
+        match_pattern(&vec![b'*'; MOST_OCTETS + 1], b"/"),
         refused_match(1)
     );
 }
@@ -184,13 +197,25 @@ fn match_path_and_pattern() {
     assert_eq!(match_pattern(b"/", b"x"), refused_match(4));
     assert_eq!(match_pattern(b"/", b"/x y"), refused_match(5));
     assert_eq!(match_pattern(b"", b"/"), refused_match(8));
+}
+
+/// "a readable pattern begins with "/" or "*"", and with nothing else.
+#[test]
+fn match_octets_of_the_pattern() {
+    let refusal = |pattern: &[u8]| match_pattern(pattern, b"/").refusal;
     for octet in 0..=255u8 {
-        let readable = octet == b'/';
-        assert_eq!(match_pattern(&[octet], b"/").refusal == 0, readable);
+        let expected = if b"/*".contains(&octet) { 0 } else { 8 };
+        for rest in [b"".as_slice(), b"/", b"*", b"$", b"*$", b"a"] {
+            let pattern = [&[octet], rest].concat();
+            assert_eq!(refusal(&pattern), expected, "{pattern:?}");
+        }
         // An octet over 0x7F needs others beside it.
         let readable = octet > 0x20 && octet != b'#' && octet <= 0x7F;
-        let refusal = if readable { 0 } else { 8 };
-        assert_eq!(match_pattern(&[b'/', octet], b"/").refusal, refusal);
+        let expected = if readable { 0 } else { 8 };
+        for first in [b"/".as_slice(), b"*", b"**", b"/*"] {
+            let pattern = [first, &[octet]].concat();
+            assert_eq!(refusal(&pattern), expected, "{pattern:?}");
+        }
     }
 }
 
@@ -207,6 +232,11 @@ fn match_order() {
     assert_eq!(match_pattern(b"x", b"#"), refused_match(4));
     assert_eq!(match_pattern(b"/#", b"/#"), refused_match(5));
     assert_eq!(match_pattern(b"/#", b"/x"), refused_match(8));
+    assert_eq!(match_pattern(b"*", b""), refused_match(3));
+    assert_eq!(match_pattern(b"*", b"*"), refused_match(4));
+    assert_eq!(match_pattern(b"*#", b"/#"), refused_match(5));
+    assert_eq!(match_pattern(b"*#", b"/x"), refused_match(8));
+    assert_eq!(match_pattern(b"$", b"/x"), refused_match(8));
 }
 
 /// Normalises into a buffer filled with 0xA5 and gives it back.

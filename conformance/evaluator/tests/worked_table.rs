@@ -1,4 +1,5 @@
-//! The worked table and the program's example. "|" ends a line.
+//! The worked table, with the row that M-102 adds, and the program's example.
+//! "|" ends a line.
 
 use evaluator::{decide, program, Decision};
 
@@ -14,7 +15,7 @@ type Row = (
 const ALLOW: bool = false;
 const DISALLOW: bool = true;
 
-const ROWS: [Row; 11] = [
+const ROWS: [Row; 12] = [
     ("", "a", "/", (ALLOW, 0, 0, 0), (0, 0)),
     (
         "user-agent: a|disallow: /",
@@ -85,6 +86,14 @@ const ROWS: [Row; 11] = [
         "/",
         (ALLOW, 0, 1, 0),
         (0, 0),
+    ),
+    // M-102's row
+    (
+        "user-agent: *|disallow: *.gif$",
+        "a",
+        "/x.gif",
+        (DISALLOW, 2, 0, 4),
+        (24, 6),
     ),
 ];
 

@@ -9,13 +9,13 @@ const FILES: [&str; 2] = ["Examples.antt", "OwnExamples.antt"];
 
 /// The sorts of rows that are questions, and how many there are of each.
 pub const SORTS: [(&str, usize); 8] = [
-    ("row", 56),
-    ("rowIn", 5),
+    ("row", 66),
+    ("rowIn", 15),
     ("sizes", 4),
     ("run", 6),
     ("located", 5),
-    ("lineRow", 43),
-    ("matchRow", 15),
+    ("lineRow", 53),
+    ("matchRow", 26),
     ("normalRow", 12),
 ];
 

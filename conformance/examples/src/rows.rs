@@ -15,13 +15,25 @@ impl Row {
     }
 }
 
-/// The rows of these sorts.
+/// A text that rows call by its name.
+const NAMED: &str = "simpleExample";
+
+/// What stands below `name =`, moved in, as one text in parentheses.
+fn spelt_out(text: &str, name: &str) -> Option<String> {
+    let (_, below) = text.split_once(&format!("\n{name} =\n"))?;
+    let lines = below.lines().map_while(|line| line.strip_prefix("    "));
+    Some(format!("({})", lines.collect::<Vec<_>>().join(" ")))
+}
+
+/// The rows of these sorts, with what the named text holds in its place.
 pub fn read(file: &'static str, text: &str, sorts: &[&str]) -> Vec<Row> {
+    let named = spelt_out(text, NAMED).unwrap_or_default();
     let numbered = text.lines().enumerate();
     numbered
         .filter_map(|(at, line)| {
             let inner = line.strip_prefix("    ")?;
-            let text = inner.strip_prefix("∷ ").unwrap_or(inner).to_string();
+            let text = inner.strip_prefix("∷ ").unwrap_or(inner);
+            let text = text.replace(NAMED, &named);
             let line = at + 1;
             let row = Row { file, line, text };
             sorts.contains(&row.sort()).then_some(row)

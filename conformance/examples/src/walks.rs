@@ -54,7 +54,7 @@ fn walk<T: Into<Vec<u8>>>(group: &'static str, row: Row<T>) -> WalkRow {
     }
 }
 
-const SHORT_GROUPS: [(&str, &[Short]); 14] = [
+const SHORT_GROUPS: [(&str, &[Short]); 15] = [
     ("the rules of document 01's examples", RULES_OF_EXAMPLES),
     ("the first run", FIRST_RUN),
     ("one try", ONE_TRY),
@@ -69,9 +69,10 @@ const SHORT_GROUPS: [(&str, &[Short]); 14] = [
     ("stars that stop inside an escape", STOPS_INSIDE_AN_ESCAPE),
     ("spellings", SPELLINGS),
     ("the file's own path", OWN_PATH),
+    ("patterns that begin with a star", STAR_FIRST),
 ];
 
-/// Document 01's table and program, each rule by itself.
+/// Document 01's table with M-102's row, and its program, each rule by itself.
 const RULES_OF_EXAMPLES: &[Short] = &[
     (b"/", b"/x", true, 1),
     (b"/p", b"/page", true, 2),
@@ -84,6 +85,8 @@ const RULES_OF_EXAMPLES: &[Short] = &[
     (b"/path/foo-%24", b"/path/foo-$", true, 13),
     (b"/sailings/draft", b"/sailings/draft/9", true, 15),
     (b"/sailings", b"/sailings/draft/9", true, 9),
+    // ".gif" only at 6 - 4 = 2
+    (b"*.gif$", b"/x.gif", true, 4),
 ];
 
 /// "The first run is tried at 0 only."
@@ -301,4 +304,57 @@ const OWN_PATH: &[Short] = &[
     (b"/robots.txt$", b"/%72obots.txt", true, 11),
     (b"/robots.txt", b"/robots.txt?x", true, 11),
     (b"/x", b"/robots.txt", false, 2),
+];
+
+/// "a readable pattern begins with "/" or "*"" (M-102): the first run is empty
+/// and costs nothing, and the one behind the star is a later run.
+const STAR_FIRST: &[Short] = &[
+    (b"*", b"/", true, 0),
+    (b"*", b"/xyz", true, 0),
+    (b"*", b"/robots.txt", true, 0),
+    (b"**", b"/x", true, 0),
+    (b"*$", b"/", true, 0),
+    (b"*$", b"/x", true, 0),
+    (b"***$", b"/x", true, 0),
+    (b"*/", b"/", true, 1),
+    (b"*/", b"/a", true, 1),
+    // "a" at 0; at 1 it would pass
+    (b"*a", b"/", false, 1),
+    (b"*ab", b"/", false, 0),
+    // "a" at 0, 1 and 2
+    (b"*a", b"/ba", true, 3),
+    (b"**a**", b"/ba", true, 3),
+    // "/a" at 0 costs 2, at 1 costs 1, at 2 costs 2
+    (b"*/a", b"/b/a", true, 5),
+    // "ab" at 0 costs 1, at 1 costs 2, at 2 costs 2
+    (b"*ab", b"/aab", true, 5),
+    // "a" at 0 and 1; "b" at 2 and 3
+    (b"*a*b", b"/axb", true, 4),
+    // ".gif" only at 2, at 2, at 3 and under 0
+    (b"*.gif$", b"/xxgif", false, 1),
+    (b"*.gif$", b"/x.gig", false, 4),
+    (b"*.gif$", b"/x.gif/", false, 1),
+    (b"*.gif$", b"/x", false, 0),
+    // at 0 too: the last run isn't also the first
+    (b"*/a$", b"/a", true, 2),
+    (b"*/a$", b"/a/a", true, 2),
+    (b"*/a$", b"/", false, 0),
+    // "a" at 0 and 1; the last "a" only at 1, and only at 2
+    (b"*a*a$", b"/a", false, 2),
+    (b"*a*a$", b"/aa", true, 3),
+    // an end mark, and the path is "/%24"
+    (b"*$", b"/$", true, 0),
+    // "%24" at 0 costs 1, at 1 costs 3; with an end mark only at 1
+    (b"*$*", b"/$", true, 4),
+    (b"*$$", b"/$", true, 3),
+    // "%24a" at 0 costs 1, at 1 costs 4
+    (b"*$a", b"/$a", true, 5),
+    // "%2A" at 0 costs 1, at 1 costs 3
+    (b"*%2a", b"/*", true, 4),
+    (b"*%2a", b"/x", false, 0),
+    // "2A" at 0 and 1 costs 1 each, at 2 costs 2
+    (b"*2A", b"/*", true, 4),
+    // the path is "/%254x1": "%254" at 0 costs 1, at 1 costs 4; "1" at 5 and 6
+    (b"*%4*1", b"/%4x1", true, 7),
+    (b"*.txt$", b"/robots.txt", true, 4),
 ];

@@ -1,6 +1,6 @@
 //! Patterns that are made from the path.
 
-use crate::patterns::{path, theme};
+use crate::patterns::{path, stars, theme};
 use crate::random::Random;
 use crate::text::escape_of;
 use crate::MatchCase;
@@ -17,8 +17,9 @@ pub(crate) fn derived_case(random: &mut Random) -> MatchCase {
     MatchCase { pattern, path }
 }
 
-/// Stretches of the path, the first of them its beginning. Where the last one
-/// reaches the path's end there often is an end mark.
+/// Stretches of the path with stars between them. The first is its beginning,
+/// or has a star in front. Where the last one reaches the path's end there
+/// often is an end mark.
 pub(crate) fn stretches(random: &mut Random, path: &[u8]) -> Vec<u8> {
     let cuts = match random.below(8) {
         0 => 0,
@@ -27,12 +28,17 @@ pub(crate) fn stretches(random: &mut Random, path: &[u8]) -> Vec<u8> {
     };
     let mut pattern = Vec::new();
     let mut at = 0;
+    if random.percent(22) {
+        pattern.extend(stars(random));
+        at = skipped(random, path, at);
+    }
+    let least = usize::from(pattern.is_empty());
     for cut in 0..=cuts {
         let is_last = cut == cuts;
         let most = if random.one_in(6) { 24 } else { 4 };
         let length = match random.below(5) {
             0 if is_last => path.len(),
-            _ => random.between(usize::from(cut == 0), most),
+            _ => random.between(if cut == 0 { least } else { 0 }, most),
         };
         let end = path.len().min(at + length);
         for octet in &path[at..end] {
@@ -40,15 +46,19 @@ pub(crate) fn stretches(random: &mut Random, path: &[u8]) -> Vec<u8> {
         }
         at = end;
         if !is_last {
-            let stars: &[u8] = random.pick(&[b"*", b"*", b"*", b"*", b"**", b"***"]);
-            pattern.extend(stars);
-            at += random.below(path.len() - at + 1).min(random.below(9));
+            pattern.extend(stars(random));
+            at = skipped(random, path, at);
         }
     }
     if random.one_in(if at == path.len() { 2 } else { 12 }) {
         pattern.push(b'$');
     }
     pattern
+}
+
+/// Where a star that begins at this place of the path ends.
+fn skipped(random: &mut Random, path: &[u8], at: usize) -> usize {
+    at + random.below(path.len() - at + 1).min(random.below(9))
 }
 
 /// An octet of the path as a pattern writes it.

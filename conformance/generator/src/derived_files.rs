@@ -32,12 +32,13 @@ pub(crate) fn long_decide_case(random: &mut Random) -> DecideCase {
     let mut case = derived_decide_case(random);
     let length = random.between(MOST_OCTETS - 2, MOST_OCTETS + 3);
     let left = length - case.file.len();
-    let block: Vec<u8> = match random.below(6) {
+    let block: Vec<u8> = match random.below(7) {
         0 => b"#".to_vec(),
         1 => b"\n".to_vec(),
         2 => b" # user-agent: *\r\n".to_vec(),
         3 => b"user-agent: -\n".to_vec(),
         4 => b"x: /\ndisallow: x\r".to_vec(),
+        5 => b"allow: *\ndisallow: *a\n".to_vec(),
         _ => [case.file.as_slice(), b"\n"].concat(),
     };
     let mut added: Vec<u8> = block.iter().copied().cycle().take(left - 1).collect();
@@ -112,7 +113,10 @@ fn between(random: &mut Random) -> Option<Vec<u8>> {
 fn rule_value(random: &mut Random, path: &[u8], before: &[Vec<u8>]) -> Vec<u8> {
     let mut pattern = match (random.below(12), before.len()) {
         (0, _) => return Vec::new(),
-        (1, _) => return [b" x".as_slice(), path].concat(),
+        (1, _) => {
+            let front: &[u8] = random.pick(&[b" x", b"$", b"$*", b"*\x80", b"*\xC0"]);
+            return [front, path].concat();
+        }
         (2..=5, count @ 1..) => {
             let earlier = before[random.below(count)].clone();
             return as_heavy(random, earlier);
@@ -127,12 +131,16 @@ fn rule_value(random: &mut Random, path: &[u8], before: &[Vec<u8>]) -> Vec<u8> {
 }
 
 /// A pattern of the same weight: one letter written as an escape, a star for
-/// one octet, or the same again.
+/// one octet or for the first "/", or the same again.
 fn as_heavy(random: &mut Random, mut pattern: Vec<u8>) -> Vec<u8> {
     let letters: Vec<usize> = (1..pattern.len())
         .filter(|at| pattern[*at].is_ascii_alphabetic() && !pattern[..*at].ends_with(b"%"))
         .filter(|at| *at < 2 || pattern[at - 2] != b'%')
         .collect();
+    if pattern.starts_with(b"/") && random.one_in(6) {
+        pattern[0] = b'*';
+        return pattern;
+    }
     if letters.is_empty() || random.one_in(3) {
         return pattern;
     }

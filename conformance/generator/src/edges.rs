@@ -6,6 +6,12 @@ use crate::{DecideCase, LineCase, MatchCase, NormaliseCase, ProgramCase};
 
 const FILE: &[u8] = b"user-agent: a\ndisallow: /a\nallow: x\n";
 
+/// Patterns that begin with a star, or with the "$" that none begins with.
+const STAR_FIRST: [&[u8]; 18] = [
+    b"*", b"**", b"*$", b"**$", b"*/", b"*a", b"*a$", b"**a", b"*a*", b"*%", b"*$*", b"*$$", b"$",
+    b"$*", b"$/", b"*#", b"* a", b"*\xC3",
+];
+
 /// The beginning, lengthened with the block to exactly `length` octets.
 fn filled(beginning: &[u8], block: &[u8], length: usize) -> Vec<u8> {
     let mut text = beginning.to_vec();
@@ -69,6 +75,8 @@ fn long_files() -> Vec<Vec<u8>> {
         (b"", b"user-agent:a\nallow:x\n"),
         (b"user-agent:a\nallow:/", b"a"),
         (b"user-agent:a\ndisallow:/", b"%"),
+        (b"user-agent:a\nallow:", b"*"),
+        (head, b"allow:*\rdisallow:*a$\n"),
         (head, &dear),
         (head, &stars),
     ] {
@@ -77,19 +85,29 @@ fn long_files() -> Vec<Vec<u8>> {
     files
 }
 
+fn decide_case(file: &[u8], name: &[u8], path: &[u8]) -> DecideCase {
+    DecideCase {
+        file: file.to_vec(),
+        name: name.to_vec(),
+        path: path.to_vec(),
+    }
+}
+
 /// Written-down questions for deciding.
 pub fn decide_edges() -> Vec<DecideCase> {
     let mut cases = Vec::new();
     let mut add = |file: &[u8], name: &[u8], path: &[u8]| {
-        cases.push(DecideCase {
-            file: file.to_vec(),
-            name: name.to_vec(),
-            path: path.to_vec(),
-        });
+        cases.push(decide_case(file, name, path));
     };
     for name in names() {
         for path in paths() {
             add(FILE, &name, &path);
+        }
+    }
+    for pattern in STAR_FIRST {
+        let rules = b"user-agent: a\nallow: /a\ndisallow: ".as_slice();
+        for path in paths() {
+            add(&[rules, pattern].concat(), b"a", &path);
         }
     }
     let long = vec![b'#'; MOST_OCTETS + 1];
@@ -100,22 +118,42 @@ pub fn decide_edges() -> Vec<DecideCase> {
     for file in long_files() {
         add(&file, b"a", &path);
     }
-    for octet in 0..=255 {
-        let line = |text: &[u8]| [text, &[octet], b"\n"].concat();
-        for rule in [b"disallow: /".as_slice(), b"disallow: /x", b"allow:"] {
-            add(
-                &[b"user-agent: a\n", line(rule).as_slice()].concat(),
-                b"a",
-                &[b'/', octet],
-            );
-        }
-        let agents = [line(b"user-agent: a"), b"disallow: /".to_vec()].concat();
-        add(&agents, &[b'a', octet], b"/x");
-        add(&agents, b"a", &[octet]);
-        add(&[&[octet], FILE].concat(), &[octet], b"/a");
-    }
+    cases.extend((0..=255).flat_map(decide_octet));
     cases
 }
+
+/// The octet in rules, agents, names and paths, and in front of a file.
+fn decide_octet(octet: u8) -> Vec<DecideCase> {
+    let line = |text: &str| [text.as_bytes(), &[octet], b"\n"].concat();
+    let rules = ["disallow: /", "disallow: /x", "disallow: *", "allow:"];
+    let mut cases = Vec::new();
+    for rule in rules {
+        let file = [b"user-agent: a\n", line(rule).as_slice()].concat();
+        cases.push(decide_case(&file, b"a", &[b'/', octet]));
+    }
+    let agents = [line("user-agent: a"), b"disallow: /".to_vec()].concat();
+    cases.push(decide_case(&agents, &[b'a', octet], b"/x"));
+    cases.push(decide_case(&agents, b"a", &[octet]));
+    cases.push(decide_case(&[&[octet], FILE].concat(), &[octet], b"/a"));
+    cases
+}
+
+const PATTERNS: [&[u8]; 14] = [
+    b"/",
+    b"/a",
+    b"/*",
+    b"/$",
+    b"/*$",
+    b"/**a$",
+    b"/*%",
+    b"/a$$",
+    b"",
+    b"a",
+    b"/#",
+    b"/ ",
+    b"/\xC3",
+    b"/robots.txt",
+];
 
 /// Written-down questions for matching.
 pub fn match_edges() -> Vec<MatchCase> {
@@ -126,25 +164,7 @@ pub fn match_edges() -> Vec<MatchCase> {
             path: path.to_vec(),
         });
     };
-    let patterns: [&[u8]; 16] = [
-        b"/",
-        b"/a",
-        b"/*",
-        b"/$",
-        b"/*$",
-        b"/**a$",
-        b"/*%",
-        b"/a$$",
-        b"",
-        b"a",
-        b"*",
-        b"$",
-        b"/#",
-        b"/ ",
-        b"/\xC3",
-        b"/robots.txt",
-    ];
-    for pattern in patterns {
+    for pattern in PATTERNS.into_iter().chain(STAR_FIRST) {
         for path in paths() {
             add(pattern, &path);
         }
@@ -153,6 +173,7 @@ pub fn match_edges() -> Vec<MatchCase> {
     for length in around(MOST_OCTETS) {
         for block in [b"*".as_slice(), b"a", b"*%", b"*5", b"%25*", b"\xC3\xA9"] {
             add(&filled(b"/", block, length), &long_path);
+            add(&filled(b"*", block, length), &long_path);
         }
     }
     let too_long = vec![b' '; MOST_OCTETS + 1];
@@ -162,6 +183,9 @@ pub fn match_edges() -> Vec<MatchCase> {
     for octet in 0..=255 {
         add(&[b'/', octet], &[b'/', octet]);
         add(&[octet], b"/");
+        add(&[octet, b'a'], b"/a");
+        add(&[b'*', octet], &[b'/', octet]);
+        add(&[b'*', octet, b'$'], b"/a");
         add(b"/*", &[octet]);
         add(&[b'/', octet, b'$'], b"/%41");
         add(&format!("/%{octet:02x}$").into_bytes(), &[b'/', octet]);
@@ -195,7 +219,7 @@ pub fn normalise_edges() -> Vec<NormaliseCase> {
 
 /// Written-down questions for the kind of a line.
 pub fn line_edges() -> Vec<LineCase> {
-    let fields: [&[u8]; 8] = [
+    let fields: [&[u8]; 11] = [
         b"user-agent:",
         b"allow:",
         b"disallow:",
@@ -204,8 +228,15 @@ pub fn line_edges() -> Vec<LineCase> {
         b":",
         b"",
         b"disallow:/\xE3",
+        b"allow:*",
+        b"Disallow :**",
+        b"disallow:*\xE3",
     ];
     let mut lines: Vec<Vec<u8>> = Vec::new();
+    for pattern in STAR_FIRST {
+        lines.push([b"allow:", pattern].concat());
+        lines.push([b" Disallow : ", pattern, b" #"].concat());
+    }
     for field in fields {
         lines.push(field.to_vec());
         lines.push([MARK, field].concat());

@@ -192,7 +192,10 @@ fn damaged_pattern(random: &mut Random, theme: &[u8]) -> Vec<u8> {
             pattern.remove(0);
         }
         1 => pattern[0] = random.octet_of(b"*$%a.\xEF"),
-        2 => pattern.extend(ill_formed(random)),
+        2 => {
+            pattern[0] = random.octet_of(b"/*");
+            pattern.extend(ill_formed(random));
+        }
         3 => {
             let at = random.between(1, pattern.len());
             pattern.insert(at, random.octet_of(b" \t\0\x1F\x7F\x0B"));

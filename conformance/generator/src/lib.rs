@@ -9,8 +9,9 @@
 //!   `i` depends on the seed and on `i` only; the same seed gives the same
 //!   cases everywhere.
 //!
-//! A case holds a question and no answer. `strings` and `after_slash` give all
-//! texts up to a length, and `normal_length` the length of a normalised path.
+//! A case holds a question and no answer. `strings`, `after_slash` and
+//! `after_slash_or_star` give all texts up to a length, and `normal_length` the
+//! length of a normalised path.
 
 mod derived;
 mod derived_files;
@@ -23,7 +24,7 @@ mod text;
 
 pub use edges::{decide_edges, line_edges, match_edges, normalise_edges, program_edges};
 pub use patterns::normal_length;
-pub use small::{after_slash, strings};
+pub use small::{after_slash, after_slash_or_star, strings};
 
 use derived::derived_case;
 use derived_files::{derived_decide_case, long_decide_case};

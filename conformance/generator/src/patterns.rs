@@ -24,10 +24,12 @@ pub(crate) fn theme(random: &mut Random) -> Vec<u8> {
     theme
 }
 
-/// A pattern, readable or not, as it stands in a rule.
+/// A pattern, readable or not, as it stands in a rule. About a fifth of them
+/// begin with a star.
 pub(crate) fn pattern(random: &mut Random, theme: &[u8]) -> Vec<u8> {
-    let mut pattern = match random.below(10) {
-        0..=5 => variant(random, theme),
+    let mut pattern = match random.below(100) {
+        0..=3 => return short(random),
+        4..=59 => variant(random, theme),
         _ => free(random),
     };
     if random.percent(25) {
@@ -48,15 +50,35 @@ pub(crate) fn pattern(random: &mut Random, theme: &[u8]) -> Vec<u8> {
     pattern
 }
 
-/// A beginning of the theme, with stars for some of its stretches.
+/// Stars with hardly anything beside them, readable or not.
+fn short(random: &mut Random) -> Vec<u8> {
+    match random.below(8) {
+        0 => [b"*", ill_formed(random)].concat(),
+        1 => [b"$", token(random).as_slice()].concat(),
+        _ => random
+            .pick(&[b"*".as_slice(), b"**", b"*$", b"**$", b"*/", b"*$*", b"$*"])
+            .to_vec(),
+    }
+}
+
+/// Stars for the beginning or the inside of a pattern.
+pub(crate) fn stars(random: &mut Random) -> &'static [u8] {
+    random.pick(&[b"*", b"*", b"*", b"*", b"**", b"***"])
+}
+
+/// A beginning of the theme, with stars for some of its stretches, now and then
+/// for the first one.
 fn variant(random: &mut Random, theme: &[u8]) -> Vec<u8> {
     let length = random.between(1, theme.len());
     let mut pattern = theme[..length].to_vec();
     for _ in 0..random.below(4) {
         let start = random.between(1, pattern.len());
         let end = random.between(start, pattern.len().min(start + 3));
-        let stars: &[u8] = random.pick(&[b"*", b"*", b"*", b"**", b"***"]);
-        pattern.splice(start..end, stars.iter().copied());
+        pattern.splice(start..end, stars(random).iter().copied());
+    }
+    if random.percent(20) {
+        let end = random.below(pattern.len().min(4) + 1);
+        pattern.splice(..end, stars(random).iter().copied());
     }
     if random.percent(30) {
         pattern = respelt(random, &pattern);
@@ -71,10 +93,11 @@ fn variant(random: &mut Random, theme: &[u8]) -> Vec<u8> {
 
 /// Tokens that have nothing to do with the theme.
 fn free(random: &mut Random) -> Vec<u8> {
-    let mut pattern = Vec::new();
-    if !random.one_in(20) {
-        pattern.push(b'/');
-    }
+    let mut pattern = match random.below(20) {
+        0 => Vec::new(),
+        1..=4 => stars(random).to_vec(),
+        _ => b"/".to_vec(),
+    };
     let tokens = match random.below(50) {
         0 => random.between(40, 120),
         _ => random.below(9),
@@ -151,7 +174,8 @@ fn theme_path(random: &mut Random, theme: &[u8]) -> Vec<u8> {
     path
 }
 
-/// The pattern with something for each star, mostly a path that it matches.
+/// The pattern with something for each star, mostly a path that it matches. A
+/// star at the beginning stands for the "/" too, where none follows it.
 fn filled(random: &mut Random, pattern: &[u8]) -> Vec<u8> {
     let marked = pattern.ends_with(b"$");
     let part = &pattern[..pattern.len() - usize::from(marked)];
@@ -167,6 +191,9 @@ fn filled(random: &mut Random, pattern: &[u8]) -> Vec<u8> {
             _ if random.one_in(60) => path.push(random.octet_of(b"ab/.%*$")),
             _ => path.push(octet),
         }
+    }
+    if pattern.starts_with(b"*") && path.first() != Some(&b'/') {
+        path.insert(0, b'/');
     }
     if random.percent(if marked { 15 } else { 40 }) {
         path.extend(tail(random));

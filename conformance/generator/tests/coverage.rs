@@ -1,9 +1,10 @@
 //! Runs the cases through the evaluator and counts what occurs. A row of the
-//! table that stays at 0 is a failure.
+//! table that stays at 0, or under the number it wants, is a failure.
 
 use std::collections::HashMap;
 
 use evaluator::{decide, line_kind, match_pattern, normalise, program};
+use evaluator::{Decision, Matched};
 use generator::{DecideCase, MatchCase, SEED};
 
 mod support;
@@ -15,10 +16,18 @@ const NORMALISE_CASES: usize = 30_000;
 const LINE_CASES: usize = 30_000;
 const PROGRAM_CASES: usize = 20_000;
 
+/// A row of a table: what is counted, how often it occurs, and how often it
+/// has to.
+struct Row {
+    what: String,
+    count: usize,
+    least: usize,
+}
+
 /// A table of counts; its rows are set from the start.
 struct Table {
     title: &'static str,
-    rows: Vec<(String, usize)>,
+    rows: Vec<Row>,
     places: HashMap<String, usize>,
     cases: usize,
 }
@@ -33,10 +42,17 @@ impl Table {
         }
     }
 
-    fn expect<T: ToString>(mut self, rows: impl IntoIterator<Item = T>) -> Table {
-        for row in rows {
-            self.places.insert(row.to_string(), self.rows.len());
-            self.rows.push((row.to_string(), 0));
+    fn expect<T: ToString>(self, rows: impl IntoIterator<Item = T>) -> Table {
+        self.expect_least(rows.into_iter().map(|row| (row, 1)))
+    }
+
+    /// Rows with the number that each wants.
+    fn expect_least<T: ToString>(mut self, rows: impl IntoIterator<Item = (T, usize)>) -> Table {
+        for (row, least) in rows {
+            let what = row.to_string();
+            self.places.insert(what.clone(), self.rows.len());
+            let count = 0;
+            self.rows.push(Row { what, count, least });
         }
         self
     }
@@ -48,7 +64,7 @@ impl Table {
     fn add(&mut self, row: &str) {
         let place = self.places.get(row);
         let place = place.unwrap_or_else(|| panic!("{}: no row {row}", self.title));
-        self.rows[*place].1 += 1;
+        self.rows[*place].count += 1;
     }
 
     fn add_if(&mut self, occurs: bool, row: &str) {
@@ -67,11 +83,11 @@ impl Table {
         }
     }
 
-    /// Prints the table and fails if a row is at 0.
+    /// Prints the table and fails if a row is under the number it wants.
     fn finish(&self, octets: &[&Octets]) {
         let mut text = format!("{}: {} cases\n", self.title, self.cases);
-        for (row, count) in &self.rows {
-            text += &format!("  {count:>8}  {row}\n");
+        for Row { what, count, .. } in &self.rows {
+            text += &format!("  {count:>8}  {what}\n");
         }
         for octets in octets {
             text += &format!(
@@ -81,8 +97,9 @@ impl Table {
             );
         }
         print!("{text}");
-        for (row, count) in &self.rows {
-            assert!(*count > 0, "{}: {row} never occurs", self.title);
+        for Row { what, count, least } in &self.rows {
+            let title = self.title;
+            assert!(count >= least, "{title}: {what}: {count}, under {least}");
         }
         for octets in octets {
             assert!(octets.rarest() > 0, "an octet is never in {}", octets.what);
@@ -290,6 +307,47 @@ fn count_groups(table: &mut Table, case: &DecideCase, lines: &[Told]) {
     }
 }
 
+/// How patterns begin, and how often they have to in deciding, matching and
+/// lines.
+const FIRST_ROWS: [(&str, [usize; 3]); 4] = [
+    ("a star first", [35_000, 8_000, 1_800]),
+    ("stars alone, and an end mark perhaps", [9_000, 2_200, 450]),
+    ("\"$\" first, unreadable", [1_800, 400, 90]),
+    ("a star, then ill-formed octets", [2_500, 600, 450]),
+];
+
+fn first_rows(of: usize) -> impl Iterator<Item = (&'static str, usize)> {
+    FIRST_ROWS
+        .into_iter()
+        .map(move |(row, least)| (row, least[of]))
+}
+
+fn count_first(table: &mut Table, readable: bool, pattern: &[u8]) {
+    let [star_first, stars_alone, dollar_first, ill_formed] = FIRST_ROWS.map(|(row, _)| row);
+    let star = pattern.starts_with(b"*");
+    let part = pattern.strip_suffix(b"$").unwrap_or(pattern);
+    let alone = part.iter().all(|octet| *octet == b'*');
+    table.add_if(readable && star, star_first);
+    table.add_if(readable && star && alone, stars_alone);
+    table.add_if(!readable && pattern.starts_with(b"$"), dollar_first);
+    let is_ill_formed = std::str::from_utf8(pattern).is_err();
+    table.add_if(!readable && star && is_ill_formed, ill_formed);
+}
+
+/// The rules of a file, and how the one begins that decided.
+fn count_rules(table: &mut Table, decision: &Decision, lines: &[Told]) {
+    for line in lines.iter().filter(|line| line.is_rule()) {
+        table.add_if([7, 10].contains(&line.kind), "readable rules");
+        count_first(table, [7, 10].contains(&line.kind), &line.value);
+    }
+    let star_decides = decision.line > 0 && lines[decision.line - 1].value.starts_with(b"*");
+    if star_decides && decision.disallow {
+        table.add("disallow by a star first");
+    } else if star_decides {
+        table.add("allow by a star first");
+    }
+}
+
 #[test]
 fn deciding() {
     let mut table = Table::new("decide")
@@ -305,6 +363,12 @@ fn deciding() {
             "unread lines",
             "compared more than 1,000",
             "compared more than 1,000,000",
+            "readable rules",
+        ])
+        .expect_least(first_rows(0))
+        .expect_least([
+            ("allow by a star first", 1_300),
+            ("disallow by a star first", 2_200),
         ])
         .expect(FILE_ROWS)
         .expect(GROUP_ROWS)
@@ -337,6 +401,7 @@ fn deciding() {
         table.add_if(decision.unread > 0, "unread lines");
         let lines = told(&case.file);
         count_groups(&mut table, &case, &lines);
+        count_rules(&mut table, &decision, &lines);
         if normal(&case.path) == b"/robots.txt" {
             table.add("always allowed: /robots.txt");
             table.add_if(case.path != b"/robots.txt", "the same in another spelling");
@@ -386,6 +451,19 @@ fn count_pattern(table: &mut Table, case: &MatchCase) {
     );
 }
 
+fn count_answer(table: &mut Table, case: &MatchCase, answer: &Matched) {
+    let marked = case.pattern.ends_with(b"$");
+    table.add(match (answer.found, marked, answer.compared) {
+        (true, false, _) => "found without an end mark",
+        (true, true, _) => "found with an end mark",
+        (false, _, 0) => "not found at no cost",
+        (false, ..) => "not found after comparing",
+    });
+    let star = case.pattern.starts_with(b"*");
+    table.add_if(star && answer.found, "found, a star first");
+    table.add_if(star && !answer.found, "not found, a star first");
+}
+
 #[test]
 fn matching() {
     let mut table = Table::new("match")
@@ -409,6 +487,11 @@ fn matching() {
             "\"%7e\" at the end",
             "\"$\" inside",
         ])
+        .expect_least(first_rows(1))
+        .expect_least([
+            ("found, a star first", 6_000),
+            ("not found, a star first", 2_500),
+        ])
         .expect(names_of(&ESCAPES))
         .expect(names_of(&CHARACTERS));
     let mut patterns = Octets::of("patterns");
@@ -426,17 +509,14 @@ fn matching() {
             table.add_forms(&ESCAPES, &case.pattern);
             table.add_forms(&CHARACTERS, &case.pattern);
         }
+        if [0, 8].contains(&answer.refusal) {
+            count_first(&mut table, answer.refusal == 0, &case.pattern);
+        }
         if answer.refusal != 0 {
             continue;
         }
         count_pattern(&mut table, &case);
-        let marked = case.pattern.ends_with(b"$");
-        table.add(match (answer.found, marked, answer.compared) {
-            (true, false, _) => "found without an end mark",
-            (true, true, _) => "found with an end mark",
-            (false, _, 0) => "not found at no cost",
-            (false, ..) => "not found after comparing",
-        });
+        count_answer(&mut table, &case, &answer);
         table.add_if(
             answer.compared > normal(&case.path).len(),
             "compared more than the path's octets",
@@ -515,6 +595,7 @@ fn kinds_of_lines() {
     let mut table = Table::new("line")
         .expect_refusals(&[0, 1, 9])
         .expect(KINDS)
+        .expect_least(first_rows(2))
         .expect(["a comment", "a mark in front", "an agent \"*\""])
         .expect(names_of(&CHARACTERS));
     let mut lines = Octets::of("lines");
@@ -532,6 +613,9 @@ fn kinds_of_lines() {
         table.add_if(line.starts_with(MARK), "a mark in front");
         let value = &line[answer.place..answer.place + answer.length];
         table.add_if(answer.kind == 4 && value == b"*", "an agent \"*\"");
+        if answer.kind >= 6 {
+            count_first(&mut table, [7, 10].contains(&answer.kind), value);
+        }
         if line.len() < 100_000 {
             table.add_forms(&CHARACTERS, line);
         }

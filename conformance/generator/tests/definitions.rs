@@ -106,8 +106,9 @@ fn other_rows() -> impl Iterator<Item = String> {
         .chain(inputs.take(CASES))
 }
 
-/// Every octet as a name, and as the last octet of a path, a pattern, a
-/// rule's pattern and an agent's value.
+/// Every octet as a name, as the last octet of a path, a pattern, a rule's
+/// pattern and an agent's value, as the first of a pattern and a rule's
+/// pattern, and behind a star.
 fn octet_rows() -> impl Iterator<Item = String> {
     (0..=u8::MAX).flat_map(|octet| {
         let after = |front: &[u8]| [front, &[octet]].concat();
@@ -125,8 +126,19 @@ fn octet_rows() -> impl Iterator<Item = String> {
                 pattern: after(b"/"),
                 path: b"/".to_vec(),
             }),
+            matched(&MatchCase {
+                pattern: after(b""),
+                path: b"/".to_vec(),
+            }),
+            matched(&MatchCase {
+                pattern: after(b"*"),
+                path: b"/".to_vec(),
+            }),
             told(&LineCase {
                 line: after(b"allow:/"),
+            }),
+            told(&LineCase {
+                line: after(b"disallow:"),
             }),
             told(&LineCase {
                 line: after(b"user-agent:"),
@@ -148,13 +160,15 @@ fn escape_rows() -> impl Iterator<Item = String> {
 }
 
 /// Patterns that hold every first octet of a longer character, with second
-/// octets on both sides of every limit and up to two more.
+/// octets on both sides of every limit and up to two more. Behind "/" and
+/// behind a star by turns.
 fn character_rows() -> impl Iterator<Item = String> {
     let seconds = [0x7F, 0x80, 0x8F, 0x90, 0x9F, 0xA0, 0xBF, 0xC0];
     (0xC0..=u8::MAX).flat_map(move |first| {
         seconds.into_iter().flat_map(move |second| {
             [b"".as_slice(), b"\x80", b"\xBF\xBF"].map(|more| {
-                let pattern = [b"/", [first, second].as_slice(), more].concat();
+                let front = [b"/", b"*"][usize::from((first ^ second) % 2)];
+                let pattern = [front, [first, second].as_slice(), more].concat();
                 let path = b"/".to_vec();
                 matched(&MatchCase { pattern, path })
             })

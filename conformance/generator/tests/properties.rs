@@ -140,8 +140,9 @@ fn derived_files_have_several_matches() {
         "the heaviest on both sides are equal",
         "the heaviest on one side are equal",
         "several groups name the crawler",
+        "a rule that begins with a star decides",
     ];
-    let mut counts = [0; 6];
+    let mut counts = [0; 7];
     let mut cases = 0;
     for (case, decision) in unrefused(generator::derived_decide_cases(SEED, CASES)) {
         cases += 1;
@@ -164,15 +165,32 @@ fn derived_files_have_several_matches() {
             !allow.is_empty() && allow.first() == disallow.first(),
             equal(&allow) || equal(&disallow),
             groups_naming(&lines, &case.name) > 1,
+            decision.line > 0 && lines[decision.line - 1].value.starts_with(b"*"),
         ];
         for (count, occurs) in counts.iter_mut().zip(occurs) {
             *count += usize::from(occurs);
         }
     }
-    for ((row, count), least) in rows.iter().zip(counts).zip([60, 40, 30, 10, 15, 30]) {
+    for ((row, count), least) in rows.iter().zip(counts).zip([60, 40, 30, 10, 15, 30, 10]) {
         println!("{count:>8} of {cases}  {row}");
         assert!(100 * count > least * cases, "{row}: {count} of {cases}");
     }
+}
+
+/// Patterns that are made from the path: many begin with a star, and of those
+/// many match and many don't.
+#[test]
+fn derived_patterns_begin_with_a_star() {
+    let mut counts = [0; 2];
+    for case in generator::derived_match_cases(SEED, CASES) {
+        let answer = match_pattern(&case.pattern, &case.path);
+        if answer.refusal == 0 && case.pattern.starts_with(b"*") {
+            counts[usize::from(answer.found)] += 1;
+        }
+    }
+    let [unfound, found] = counts;
+    println!("{found} found and {unfound} not found, of {CASES}");
+    assert!(15 * found > CASES && 15 * unfound > CASES);
 }
 
 /// How many groups name this one.
@@ -323,6 +341,33 @@ fn matching_and_deciding_agree() {
             assert_eq!(match_pattern(&longer, &case.path), answer, "{case:?}");
         }
     }
+}
+
+/// A star in front of a pattern: it stays readable, and what matched matches.
+/// In front of another star it changes nothing. A pattern that begins with
+/// neither "/" nor a star is unreadable, and a star in front may mend it.
+#[test]
+fn a_star_in_front() {
+    let cases =
+        generator::match_cases(SEED, CASES).chain(generator::derived_match_cases(SEED, CASES));
+    let mut mended = 0;
+    for case in cases {
+        let answer = match_pattern(&case.pattern, &case.path);
+        let longer = [b"*", case.pattern.as_slice()].concat();
+        let with_star = match_pattern(&longer, &case.path);
+        match case.pattern.first() {
+            Some(b'*') => assert_eq!(with_star, answer, "{case:?}"),
+            Some(b'/') => {
+                assert_eq!(with_star.refusal, answer.refusal, "{case:?}");
+                assert!(with_star.found || !answer.found, "{case:?}");
+            }
+            _ => {
+                assert_ne!(answer.refusal, 0, "{case:?}");
+                mended += usize::from(with_star.refusal == 0);
+            }
+        }
+    }
+    assert!(mended > CASES / 100, "{mended}");
 }
 
 /// A line's value has no spaces at its ends, and nothing of it is comment.

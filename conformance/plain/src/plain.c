@@ -296,7 +296,7 @@ static const uint8_t *rule_line(struct state *state, const uint8_t *at, const ui
     at = skip_blanks(at, end);
     if (value_ends(at, end))
         return at;
-    bool starts_well = *at == '/';
+    bool starts_well = *at == '/' || *at == '*';
     if (starts_well)
         at = skip_blanks(read_characters(at, end, &pattern), end);
     if (!starts_well || !value_ends(at, end)) {

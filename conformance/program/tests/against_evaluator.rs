@@ -106,6 +106,27 @@ fn parts_of_the_input() {
     check_output(&output, b"refused 2\n", b"");
 }
 
+/// M-102's row of the table; "*" alone; what begins with neither "/" nor "*".
+#[test]
+fn patterns_that_begin_with_a_star() {
+    for (input, line) in [
+        (
+            "a\n/x.gif\nuser-agent: *\ndisallow: *.gif$",
+            "disallow line 2 unread 0 compared 4",
+        ),
+        (
+            "a\n/x\nuser-agent: *\nallow: /x\ndisallow: *",
+            "allow line 2 unread 0 compared 2",
+        ),
+        (
+            "a\n/x\nuser-agent: *\ndisallow: $*\nallow: *",
+            "allow line 3 unread 1 compared 0",
+        ),
+    ] {
+        check_line(input.as_bytes(), line);
+    }
+}
+
 /// Only LF ends a name and a path; a CR is an octet of theirs.
 #[test]
 fn carriage_returns() {
@@ -144,6 +165,11 @@ fn the_longest_input() {
             "a\n/\nuser-agent: a\ndisallow: /",
             "*",
             "disallow line 2 unread 0 compared 1",
+        ),
+        (
+            "a\n/\nuser-agent: a\ndisallow: *",
+            "*",
+            "disallow line 2 unread 0 compared 0",
         ),
         ("a\n/\n", "\n", "allow line 0 unread 0 compared 0"),
         ("", "a", "refused 2"),
@@ -206,7 +232,7 @@ fn every_row_of_the_definitions() {
             _ => {}
         }
     }
-    assert_eq!((runs, decisions), (6, 70), "runs and decisions");
+    assert_eq!((runs, decisions), (6, 90), "runs and decisions");
 }
 
 /// The examples of the sources, with the answers that are written beside them.
@@ -233,7 +259,7 @@ fn every_example_of_a_decision() {
         };
         check_line(&input, &line);
     }
-    assert_eq!(rows, 155, "rows that ask for a decision");
+    assert_eq!(rows, 158, "rows that ask for a decision");
 }
 
 /// Sizes and octets that are written down, and generated inputs: every refusal

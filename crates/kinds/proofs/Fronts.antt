@@ -13,8 +13,7 @@ use Rattle.lists.proofs.Bools.{split, and-left}
 use Rattle.lists.proofs.Parts.{upTo-from}
 use Rattle.lists.proofs.Scans.{rest-of, drop-one, take-upTo, drop-upTo, upTo-fits}
 use Rattle.protocol.specs.declared.Place.{Place}
-use Rattle.protocol.specs.Octets.{is}
-use Rattle.protocol.specs.Text.{begins, trimEnd}
+use Rattle.protocol.specs.Text.{trimEnd}
 use Rattle.protocol.specs.Readable.{wellFormed, patternStart, readablePattern}
 use Rattle.readable.specs.Due.{ordinary, unusual}
 use Rattle.readable.proofs.Characters.{well-formed-front}
@@ -95,8 +94,7 @@ module _ (l : List ℕ) (n : ℕ) (k : n ≡ length (upTo unusual l)) where
       ∙ sym (well-formed-front m)
       ∙ rw (upTo-first unusual unusual (λ x h. h) l, drop-length m)
 
--- a pattern of whole characters is readable if it begins with "/"
-pub formed-readable : (v : List ℕ) → 0 < length v → wellFormed [] v ≡ true → readablePattern v ≡ is "/" (getD v 0 0)
-unfolding readablePattern patternStart begins
-formed-readable [] h e = absurd (omega arith)
-formed-readable (x ∷ v) h e = split (is "/" x) (λ d. rw (d, e)) (λ d. rw d)
+-- a pattern of whole characters is readable if it begins as one may
+pub formed-readable : (v : List ℕ) → wellFormed [] v ≡ true → readablePattern v ≡ patternStart v
+unfolding readablePattern
+formed-readable v e = split (patternStart v) (λ d. rw (d, e)) (λ d. rw d)

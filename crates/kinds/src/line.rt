@@ -113,7 +113,7 @@ fn formed_pattern(place: Place, value: &[u8]) -> Pattern
     if value.len() == 0 {
         return Pattern::Empty;
     }
-    if value[0] == b'/' {
+    if readable::pattern_start(value) {
         return Pattern::Readable(place, value.len());
     }
     Pattern::Unreadable(place, value.len())

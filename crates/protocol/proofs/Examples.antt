@@ -1,18 +1,21 @@
 -- The worked examples, computed. Assumes nothing.
+use Prim.Native.Nat.{ℕ}
 use mathlib.Core.Path.{_≡_, refl, ap}
-use mathlib.Core.Bool.{false≢true}
-use mathlib.Core.List.{[], _∷_, map}
+use mathlib.Core.Bool.{true, false≢true}
+use mathlib.Core.List.{List, [], _∷_, map}
 use native.Mathlib.Omega.{arith}
 use lib.ListN.{length}
+use borrow.Author.Tests.{le-leb}
 use Rattle.protocol.specs.declared.Side.{Side}
 use Rattle.protocol.specs.Text.{octets}
 use Rattle.protocol.specs.Entries.{entries}
-use Rattle.protocol.specs.Pattern.{shapeOf}
+use Rattle.protocol.specs.Pattern.{shapeOf, weight}
 use Rattle.protocol.specs.Matching.{filled, Matches}
+use Rattle.protocol.specs.Walk.{walk}
 use Rattle.protocol.specs.Answers.{sideNumber}
 use Rattle.protocol.specs.Program.{decimal, output}
 use Rattle.protocol.specs.Examples.{asked, answer, workedTable, programInput, programOutput}
-use Rattle.protocol.specs.OwnExamples.{ourTable, refusedAt, refusalAt, ourSizes, spanAsked, span, ourSpans}
+use Rattle.protocol.specs.OwnExamples.{simpleExample, ourTable, refusedAt, refusalAt, ourSizes, spanAsked, span, ourSpans}
 use Rattle.protocol.specs.OwnExamples.{givenEntries, applyingLines, fillingAsked, fillingGives, ourFillings}
 use Rattle.protocol.specs.OwnExamples.{entryNumbers, entriesFile, entriesNumbers, lineAsked, ourLines}
 use Rattle.protocol.specs.OwnExamples.{matchAsked, matchAnswer, ourMatches, walkAsked, walkAnswer, ourWalks, normalAsked, ourNormals}
@@ -33,7 +36,7 @@ program-example = refl
 
 -- rows of ours
 pub our-table : map asked ourTable ≡ map answer ourTable
-unfolding computing ourTable
+unfolding computing ourTable simpleExample
 our-table = refl
 
 pub our-sizes : map refusedAt ourSizes ≡ map refusalAt ourSizes
@@ -88,6 +91,22 @@ matches-whole = record { fillings = octets "xx" ∷ []; rest = []; gives = refl;
 pub matches-not : Matches (shapeOf (octets "/a$")) (octets "/ab") → ⊥
 unfolding computing filled
 matches-not m = omega (arith, ap length (m .gives), ap length (m .whole refl))
+
+-- a star by itself weighs one, and matches every path, at no cost
+pub star-weight : weight (shapeOf (octets "*")) ≡ 1
+unfolding computing
+star-weight = refl
+
+pub star-matches : (path : List ℕ) → Matches (shapeOf (octets "*")) path
+unfolding computing filled
+star-matches path = record { fillings = []; rest = path; gives = refl; whole = λ e. absurd (false≢true e) }
+
+pub star-walk : (path : List ℕ) → walk (shapeOf (octets "*")) path ≡ record { stood = true; past = 0; count = 0 }
+unfolding computing
+star-walk [] = refl
+star-walk (x ∷ path) =
+    let fits = le-leb 0 (length (x ∷ path)) (omega arith) in
+    rw fits (rw fits)
 
 pub our-walks : map walkAsked ourWalks ≡ map walkAnswer ourWalks
 unfolding computing ourWalks

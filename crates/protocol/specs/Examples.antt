@@ -53,7 +53,7 @@ asked r = told (decide (r .file) (octets (r .name)) (octets (r .path)))
 abbrev pub answer : Row → Answer
 answer r = r .answer
 
--- the table of document 01, which calls it the harbour table
+-- the table of document 01, which calls it the harbour table, and what a request of document 02 adds to it
 unfoldable pub workedTable : List Row
 workedTable =
     row "" "a" "/" (allow 0 0 0)
@@ -67,6 +67,8 @@ workedTable =
     ∷ row "user-agent: *|disallow: /path/foo-%24" "a" "/path/foo-$" (disallow 2 0 13)
     ∷ row "user-agent: a|sitemap: x|user-agent: b|disallow: /" "a" "/" (disallow 4 0 1)
     ∷ row "user-agent: a|disallow: x|user-agent: b|disallow: /" "a" "/" (allow 0 1 0)
+    -- M-102's row
+    ∷ row "user-agent: *|disallow: *.gif$" "a" "/x.gif" (disallow 2 0 4)
     ∷ []
 
 -- "For the input .. the whole output is"

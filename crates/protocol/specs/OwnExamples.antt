@@ -14,6 +14,7 @@ use Rattle.protocol.specs.declared.Walked.{Walked}
 use Rattle.protocol.specs.Octets.{token, unreserved, hex, blank, lineEnd, lowerCase, upperCase, hexValue, hexDigit}
 use Rattle.protocol.specs.Text.{octets}
 use Rattle.protocol.specs.Lines.{lineNumber, placeAt}
+use Rattle.protocol.specs.Readable.{patternStart}
 use Rattle.protocol.specs.Entries.{Role, agent, rule, Entry}
 use Rattle.protocol.specs.Rules.{applying}
 use Rattle.protocol.specs.Pattern.{shapeOf}
@@ -28,6 +29,14 @@ use Rattle.protocol.specs.Examples.{allow, disallow, refused, Row, lines
 abbrev pub leadingMark : List ℕ
 leadingMark = 0xEF ∷ 0xBB ∷ 0xBF ∷ []
 
+-- RFC 9309, section 5.1, as source document 002 has it
+unfoldable pub simpleExample : List ℕ
+simpleExample =
+    lines "User-Agent: *|Disallow: *.gif$|Disallow: /example/|Allow: /publications/||"
+    ++ lines "User-Agent: foobot|Disallow:/|Allow:/example/page.html|Allow:/example/allowed.gif||"
+    ++ lines "User-Agent: barbot|User-Agent: bazbot|Disallow: /example/page.html||"
+    ++ lines "User-Agent: quxbot||EOF|"
+
 -- Deciding
 unfoldable pub ourTable : List Row
 ourTable =
@@ -39,7 +48,7 @@ ourTable =
     ∷ row "user-agent: *|disallow: /a|disallow: /a" "a" "/a" (disallow 2 0 4)
     -- weight is of the normalised pattern
     ∷ row "user-agent: *|allow: /%41%41|disallow: /AAA" "a" "/AAAx" (disallow 3 0 7)
-    -- a star weighs one, and so does the end leadingMark
+    -- a star weighs one, and so does the end mark
     ∷ row "user-agent: *|disallow: /ab|allow: /a*" "a" "/ab" (allow 3 0 5)
     ∷ row "user-agent: *|allow: /ab|disallow: /a*" "a" "/ab" (allow 2 0 5)
     ∷ row "user-agent: *|allow: /ab|disallow: /ab$" "a" "/ab" (disallow 3 0 6)
@@ -76,6 +85,28 @@ ourTable =
     -- a star may stop inside a %XX, and may stand for nothing
     ∷ row "user-agent: *|disallow: /*4$" "a" "/$" (disallow 2 0 2)
     ∷ row "user-agent: *|disallow: /a**b*" "a" "/ab" (disallow 2 0 3)
+    -- a star that begins a pattern weighs one too; alone it matches everything, and nothing is compared
+    ∷ row "user-agent: *|disallow: *" "a" "/" (disallow 2 0 0)
+    ∷ row "user-agent: *|allow: *|disallow: /" "a" "/x" (allow 2 0 1)
+    ∷ row "user-agent: *|disallow: *|allow: /" "a" "/x" (allow 3 0 1)
+    ∷ row "user-agent: *|allow: *|disallow: **" "a" "/x" (disallow 3 0 0)
+    ∷ row "user-agent: *|allow: *|disallow: *$" "a" "/x" (disallow 3 0 0)
+    ∷ row "user-agent: *|disallow: **|allow: *$" "a" "/x" (allow 3 0 0)
+    -- the run behind it is put at the first place where it stands
+    ∷ row "user-agent: *|disallow: *x" "a" "/axx" (disallow 2 0 3)
+    -- "$" begins no pattern; and what begins well isn't readable for that
+    ∷ row "user-agent: *|disallow: $|disallow: $*" "a" "/$" (allow 0 2 0)
+    ∷ rowIn (lines "user-agent: *|disallow: *" ++ (0x80 ∷ [])) "a" "/x" (allow 0 1 0)
+    -- the groups of RFC 9309's simple example
+    ∷ rowIn simpleExample "a" "/image.gif" (disallow 2 0 6)
+    ∷ rowIn simpleExample "a" "/example/page.html" (disallow 3 0 12)
+    ∷ rowIn simpleExample "a" "/publications/x.gif" (allow 4 0 20)
+    ∷ rowIn simpleExample "foobot" "/image.gif" (disallow 7 0 1)
+    ∷ rowIn simpleExample "foobot" "/example/page.html" (allow 8 0 19)
+    ∷ rowIn simpleExample "foobot" "/example/allowed.gif" (allow 9 0 31)
+    ∷ rowIn simpleExample "barbot" "/example/page.html" (disallow 13 0 18)
+    ∷ rowIn simpleExample "bazbot" "/image.gif" (allow 0 0 0)
+    ∷ rowIn simpleExample "quxbot" "/image.gif" (allow 0 0 0)
     -- CR LF is one ending, LF CR is two, and CR alone is one
     ∷ row "user-agent: a\r|disallow: /" "a" "/" (disallow 2 0 1)
     ∷ row "user-agent: a|\rdisallow: /" "a" "/" (disallow 3 0 1)
@@ -92,6 +123,7 @@ ourTable =
     ∷ row "user-agent: a|allow\0: /|disallow: /" "a" "/" (disallow 3 0 1)
     -- /robots.txt is allowed with the whole file's unread count, and nothing is compared; with a query it is another path
     ∷ row "user-agent: *|disallow: x|disallow: /" "a" "/robots.txt" (allow 0 1 0)
+    ∷ row "user-agent: *|disallow: *" "a" "/robots.txt" (allow 0 0 0)
     ∷ row "user-agent: *|disallow: /" "a" "/robots.txt?x" (disallow 2 0 1)
     -- refusals, the smallest number first
     ∷ row "user-agent: *|allow: /" "" "" (refused 2)
@@ -277,6 +309,17 @@ ourLines =
     ∷ lineRow (octets "disallow:\t") 0 9 0 0
     ∷ lineRow (octets "  disallow : /a# b") 0 10 13 2
     ∷ lineRow (octets "disallow: /a b") 0 11 10 4
+    -- a pattern begins with "/" or "*"
+    ∷ lineRow (octets "allow: *") 0 7 7 1
+    ∷ lineRow (octets "disallow:*.gif$ # a") 0 10 9 6
+    ∷ lineRow (octets "disallow: **") 0 10 10 2
+    ∷ lineRow (octets "allow: *$") 0 7 7 2
+    ∷ lineRow (octets "allow: $") 0 8 7 1
+    ∷ lineRow (octets "disallow: $*") 0 11 10 2
+    ∷ lineRow (octets "disallow: %2A") 0 11 10 3
+    ∷ lineRow (octets "allow: * /") 0 8 7 3
+    ∷ lineRow (octets "allow:*" ++ (0x80 ∷ [])) 0 8 6 2
+    ∷ lineRow (octets "allow:*" ++ (0xC2 ∷ 0x80 ∷ [])) 0 7 6 3
     -- well-formed: the first and the last character of each form
     ∷ lineRow (octets "allow:/" ++ (0x21 ∷ 0x22 ∷ 0x24 ∷ 0x7F ∷ 0xC2 ∷ 0x80 ∷ 0xDF ∷ 0xBF ∷ [])) 0 7 6 9
     ∷ lineRow (octets "allow:/" ++ (0xE0 ∷ 0xA0 ∷ 0x80 ∷ 0xED ∷ 0x9F ∷ 0xBF ∷ 0xEE ∷ 0x80 ∷ 0x80 ∷ 0xEE ∷ 0xBF ∷ 0xBF ∷ 0xEF ∷ 0xBF ∷ 0xBF ∷ [])) 0 7 6 16
@@ -342,11 +385,23 @@ ourMatches =
     ∷ matchRow "/b*a" "/a" 0 false 2
     -- /robots.txt is a path like any other
     ∷ matchRow "/" "/robots.txt" 0 true 1
+    -- an empty first run stands at 0, at no cost
+    ∷ matchRow "*" "/a" 0 true 0
+    ∷ matchRow "**" "/a" 0 true 0
+    ∷ matchRow "*$" "/a" 0 true 0
+    ∷ matchRow "*.gif$" "/x.gif" 0 true 4
+    ∷ matchRow "*.gif$" "/x.gif5" 0 false 1
+    ∷ matchRow "*a" "/ba" 0 true 3
+    ∷ matchRow "*/a" "/b/a" 0 true 5
+    ∷ matchRow "*abc" "/a" 0 false 0
     ∷ matchRow "/" "" 3 false 0
     ∷ matchRow "" "a" 4 false 0
     ∷ matchRow "" "/ " 5 false 0
     ∷ matchRow "" "/" 8 false 0
     ∷ matchRow "a" "/" 8 false 0
+    ∷ matchRow "$" "/" 8 false 0
+    ∷ matchRow "$*" "/" 8 false 0
+    ∷ matchRow "*#" "/" 8 false 0
     ∷ matchRow "/a#" "/" 8 false 0
     ∷ []
 
@@ -396,6 +451,8 @@ ourWalks =
     ∷ walkRow "/a" "/ab" true 2 2
     ∷ walkRow "/*b" "/abc" true 3 3
     ∷ walkRow "/*c$" "/abc" true 4 2
+    ∷ walkRow "*c" "/abc" true 4 4
+    ∷ walkRow "*$" "/abc" true 4 0
     ∷ walkRow "/b" "/a" false 0 2
     ∷ walkRow "/a$" "/ab" false 0 0
     ∷ []
@@ -422,6 +479,7 @@ ourStarts =
     ∷ startsRow "/a*b*c$" "/abbcbc" (0 ∷ 2 ∷ 6 ∷ [])
     -- an empty run is put at the end of the run ahead
     ∷ startsRow "/a**b*" "/ab" (0 ∷ 2 ∷ 2 ∷ 3 ∷ [])
+    ∷ startsRow "*.gif$" "/x.gif" (0 ∷ 2 ∷ [])
     ∷ []
 
 -- One path and a lent buffer: refusal, octets written, and what the buffer holds then
@@ -495,6 +553,8 @@ ourSorts =
     ∷ (lineEnd holds "\n\r")
     ∷ (changedBy lowerCase holds "ABCDEFGHIJKLMNOPQRSTUVWXYZ")
     ∷ (changedBy upperCase holds "abcdefghijklmnopqrstuvwxyz")
+    -- what a pattern may begin with
+    ∷ ((λ x. patternStart (x ∷ [])) holds "*/")
     ∷ []
 
 -- Octets in another case, hex digits and their values: a text, and what each of its octets becomes

@@ -80,9 +80,9 @@ wellFormed (r ∷ due) [] = false
 wellFormed [] (x ∷ l) = wellFormed (dueAfter x characterForms) l
 wellFormed (r ∷ due) (x ∷ l) = holds r x && wellFormed due l
 
--- "begins with "/""
+-- M-102: "a readable pattern begins with "/" or "*""
 unfoldable pub patternStart : List ℕ → Bool
-patternStart p = begins "/" p
+patternStart p = begins "/" p || begins "*" p
 
 -- "and is well-formed by the RFC's UTF8-char-noctl rule"
 unfoldable pub readablePattern : List ℕ → Bool

@@ -98,13 +98,15 @@ fn well_formed(s: &[u8]) -> bool
     due.more == 0
 }
 
-fn pattern_start(p: &[u8]) -> bool
+// What a pattern may begin with.
+pub fn pattern_start(p: &[u8]) -> bool
     ensures { λ r. ⌜ r ≡ patternStart (now (p .entry)) ⌝ }
 {
     if p.len() == 0 {
         return false;
     }
-    p[0] == b'/'
+    let x = p[0];
+    x == b'/' || x == b'*'
 }
 
 pub fn readable_pattern(p: &[u8]) -> bool

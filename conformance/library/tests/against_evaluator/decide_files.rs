@@ -133,6 +133,10 @@ fn deciding_octets() {
         ("disallow:/A$#", "/A$"),
         ("disallow:/*", "/*"),
         ("disallow:/%41*$ ", "/%41*$"),
+        ("disallow:*", "*"),
+        ("disallow:*#", "*"),
+        ("disallow:\t*$\t", "*$"),
+        ("disallow: **%41$", "**%41$"),
     ] {
         for front in [
             "user-agent:a\n",
@@ -204,6 +208,10 @@ fn escapes_in_patterns_and_paths() {
         ("/a$b", "/a%24b", true, 6),
         ("/a%", "/a%25", true, 5),
         ("/%61%2e", "/a.", true, 3),
+        // "%2A" at 0 costs 1, at 1 costs 3; "%24b" 1 and 4
+        ("*%2a", "/*", true, 4),
+        ("*$b", "/$b", true, 5),
+        ("*$", "/$", true, 0),
     ] {
         let file = format!("user-agent: a\ndisallow: {pattern}");
         let told = ("disallow", 2, pattern.as_bytes());
@@ -214,8 +222,39 @@ fn escapes_in_patterns_and_paths() {
     }
 }
 
+/// "a readable pattern begins with "/" or "*"" (M-102); the first row is its
+/// own. An unreadable one never matches, and is counted.
+#[test]
+fn patterns_that_begin_with_a_star() {
+    let rules = b"user-agent: *\ndisallow: *.gif$";
+    check_rule(rules, b"/x.gif", ("disallow", 2, b"*.gif$"), [0, 4]);
+    // ".gif" at 2 only, where "g" stands; under 0
+    check_no_rule(rules, b"a", b"/.gif/", 0, 1);
+    check_no_rule(rules, b"a", b"/gi", 0, 0);
+    let rules = b"user-agent: a\ndisallow: *";
+    for path in ["/", "/a", "/robots.txt?", "/*"] {
+        check_rule(rules, path.as_bytes(), ("disallow", 2, b"*"), [0, 0]);
+    }
+    check_no_rule(rules, b"a", b"/robots.txt", 0, 0);
+    // "*" weighs 1 as "/" does, and "**" 2
+    let rules = b"user-agent: a\ndisallow: *\nallow: /\n";
+    check_rule(rules, b"/", ("allow", 3, b"/"), [0, 1]);
+    let rules = b"user-agent: a\ndisallow: /\nallow: *\n";
+    check_rule(rules, b"/", ("allow", 3, b"*"), [0, 1]);
+    let rules = b"user-agent: a\ndisallow: **\nallow: /\n";
+    check_rule(rules, b"/", ("disallow", 2, b"**"), [0, 1]);
+    for unreadable in ["$", "$*", "$/", "%2A", ".gif$", "*\u{1}", "*a b"] {
+        let rules = format!("user-agent: a\ndisallow: {unreadable}\nallow: *\n");
+        check_rule(rules.as_bytes(), b"/", ("allow", 3, b"*"), [1, 0]);
+    }
+    check_no_rule(b"user-agent: a\ndisallow: *\xC3\n", b"a", b"/", 1, 0);
+}
+
 /// Patterns that match the path "/ab", with their weights.
-const PATTERNS: [(&str, usize); 9] = [
+const PATTERNS: [(&str, usize); 12] = [
+    ("*", 1),
+    ("*b", 2),
+    ("*b$", 3),
     ("/", 1),
     ("/a", 2),
     ("/*", 2),

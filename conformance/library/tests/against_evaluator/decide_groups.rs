@@ -76,7 +76,7 @@ const ROWS: [(&str, &str, &[usize]); 34] = [
         &[],
     ),
     ("user-agent: a|allow:|user-agent: b|disallow: /", "a", &[]),
-    ("user-agent: b|allow: *|user-agent: a|disallow: /", "b", &[]),
+    ("user-agent: b|allow: $|user-agent: a|disallow: /", "b", &[]),
     // "Blank, noise and other lines change nothing"
     ("user-agent: a||user-agent: b|disallow: /", "a", &[4]),
     ("user-agent: a|x|user-agent: b|disallow: /", "a", &[4]),

@@ -75,6 +75,10 @@ fn one_pattern_fills_the_file() {
         // "/" 1, and each later run is empty
         let expected = disallowed(([2, 22, MOST_FILE - 22], [0, 1]));
         check_decision((&file, b"a", &path), expected);
+        // every run is empty
+        let file = lengthened(b"user-agent:*\ndisallow:", b"*", b"", MOST_FILE);
+        let expected = disallowed(([2, 22, MOST_FILE - 22], [0, 0]));
+        check_decision((&file, b"a", &path), expected);
     }
     // one run, too long for any path
     let file = lengthened(b"user-agent:*\ndisallow:/", b"%", b"", MOST_FILE);
@@ -86,6 +90,10 @@ fn as_many_rules_as_fit() {
     let (file, times) = filled(b"user-agent:*\n", b"disallow:/\n");
     assert_eq!(times, 46_544);
     check_decision((&file, b"a", b"/x"), disallowed(([2, 22, 1], [0, times])));
+    check_no_rule(&file, b"a", b"/robots.txt", 0, 0);
+    let (file, times) = filled(b"user-agent:*\n", b"disallow:*\n");
+    assert_eq!(times, 46_544);
+    check_decision((&file, b"a", b"/x"), disallowed(([2, 22, 1], [0, 0])));
     check_no_rule(&file, b"a", b"/robots.txt", 0, 0);
 }
 
@@ -108,7 +116,7 @@ fn as_many_rules_as_fit_and_a_heavier_one() {
 fn as_many_unreadable_lines_as_fit() {
     for line in [
         "allow:x\n",
-        "disallow:*\r",
+        "disallow:$\r",
         "user-agent:\n",
         "user-agent:9\r\n",
     ] {

@@ -17,13 +17,15 @@ const NEIGHBOURS: [(&str, &str); 7] = [
     ("/", "$"),
 ];
 
-const FILES: [&str; 6] = [
+const FILES: [&str; 8] = [
     "",
     "user-agent:a\ndisallow:/",
     "user-agent:a\ndisallow:/a\r",
     "user-agent:a",
     "user-agent:*\nallow:/%",
     "\nuser-agent:a\ndisallow:",
+    "user-agent:a\ndisallow:*",
+    "user-agent:a\nallow:*a",
 ];
 
 /// Names and paths.
@@ -97,6 +99,7 @@ fn a_small_stack_is_enough() {
         ("user-agent:a\n", "disallow:/%\n"),
         ("user-agent:a\ndisallow:/", "%"),
         ("user-agent:a\ndisallow:/", "*%"),
+        ("user-agent:a\ndisallow:", "*5"),
         ("", "user-agent:a\nallow:/*a\n"),
     ] {
         let file = lengthened(beginning.as_bytes(), block.as_bytes(), b"", MOST_FILE);

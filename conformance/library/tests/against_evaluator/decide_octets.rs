@@ -27,6 +27,9 @@ fn in_every_place() {
         ("user-agent:a\n", "\ndisallow:/"),
         ("user-agent:a\ndisallow", "/"),
         ("user-agent:a\ndisallow:", "/"),
+        ("user-agent:a\ndisallow:", "b"),
+        ("user-agent:a\ndisallow:*", ""),
+        ("user-agent:a\nallow:/\ndisallow:*", "$"),
         ("user-agent:a\ndisallow:/", ""),
         ("user-agent:a\ndisallow:/", "b"),
         ("user-agent:a\ndisallow:/a", "\nallow:/"),
@@ -79,8 +82,11 @@ fn names_and_agents() {
 #[test]
 fn patterns_and_paths() {
     for octet in 0..=255u8 {
-        each_between(b"user-agent:*\nallow:/\ndisallow:/", b"", |file| {
-            check_decide(file, b"a", &[b'/', octet]);
-        });
+        for rules in ["allow:/\ndisallow:/", "allow:*\ndisallow:*"] {
+            let before = format!("user-agent:*\n{rules}");
+            each_between(before.as_bytes(), b"", |file| {
+                check_decide(file, b"a", &[b'/', octet]);
+            });
+        }
     }
 }

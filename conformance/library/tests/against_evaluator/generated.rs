@@ -62,13 +62,18 @@ fn many_generated_decisions() {
         .chain(generator::long_decide_cases(SEED, LONG_DECISIONS));
     let mut seen: BTreeMap<String, usize> = BTreeMap::new();
     let (mut unread, mut dear) = (0, 0);
+    let mut by_star = [0; 2];
     for case in cases {
         let decision = check_decide(&case.file, &case.name, &case.path);
         *seen.entry(sort(&decision)).or_default() += 1;
+        if decision.line > 0 && case.file[decision.place] == b'*' {
+            by_star[usize::from(decision.disallow)] += 1;
+        }
         unread += usize::from(decision.unread > 0);
         dear += usize::from(decision.compared > case.path.len());
     }
     println!("{seen:?}, {unread} with unread lines, {dear} compared more than the path's octets");
+    println!("allow and disallow by a pattern that begins with a star: {by_star:?}");
     let questions: usize = seen.values().sum();
     assert!(questions >= 200_000, "{questions} questions");
     for (sort, least) in [
@@ -85,16 +90,27 @@ fn many_generated_decisions() {
         assert!(count >= least, "{sort}: {count}, less than {least}");
     }
     assert!(unread > 50_000 && dear > 10_000, "{unread}, {dear}");
+    assert!(by_star.iter().all(|count| *count > 5_000), "{by_star:?}");
 }
 
-/// Every kind and every refusal of a short line is among them.
+/// Every kind and every refusal of a short line is among them, and many
+/// patterns that begin with a star.
 #[test]
 fn many_generated_lines() {
     let mut seen = BTreeSet::new();
+    let mut star_first = [0; 2];
     for case in generator::line_cases(SEED, LINES) {
         let answer = check_line(&case.line);
         seen.insert((answer.refusal, answer.kind));
+        if answer.kind > 5 && answer.length > 0 && case.line[answer.place] == b'*' {
+            star_first[usize::from([7, 10].contains(&answer.kind))] += 1;
+        }
     }
+    println!("unreadable and readable patterns that begin with a star: {star_first:?}");
+    assert!(
+        star_first[0] > 500 && star_first[1] > 5_000,
+        "{star_first:?}"
+    );
     let mut expected: BTreeSet<_> = (1..=11).map(|kind| (0, kind)).collect();
     expected.insert((9, 0));
     assert_eq!(seen, expected, "refusals and kinds among the lines");
@@ -113,21 +129,30 @@ fn many_generated_paths() {
 }
 
 /// Every refusal of a short pattern is among them, and about half of the
-/// others match, with an end mark and without.
+/// others match, with an end mark and without, with a star first and without.
 #[test]
 fn many_generated_matches() {
     let cases =
         generator::match_cases(SEED, MATCHES).chain(generator::derived_match_cases(SEED, MATCHES));
     let mut seen = BTreeSet::new();
     let (mut pairs, mut answered, mut matches) = (0, 0, 0);
+    let mut star_first = [0; 2];
     for case in cases {
         let answer = check_match(&case.pattern, &case.path);
         seen.insert((answer.refusal, answer.found, case.pattern.ends_with(b"$")));
+        if answer.refusal == 0 && case.pattern.starts_with(b"*") {
+            star_first[usize::from(answer.found)] += 1;
+        }
         pairs += 1;
         answered += usize::from(answer.refusal == 0);
         matches += usize::from(answer.found);
     }
     println!("{pairs} pairs, {answered} answered, {matches} matches");
+    println!("not found and found with a star first: {star_first:?}");
+    assert!(
+        star_first.iter().all(|count| *count > 20_000),
+        "{star_first:?}"
+    );
     assert!(pairs >= 200_000, "{pairs} pairs");
     let (least, most) = (answered * 40 / 100, answered * 60 / 100);
     assert!(

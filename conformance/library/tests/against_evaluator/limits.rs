@@ -20,6 +20,8 @@ fn the_longest_line() {
     for (beginning, octet, expected) in [
         ("allow:/", b'a', told(0, 7, 6, MOST_LINE - 6)),
         ("disallow:/", b'%', told(0, 10, 9, MOST_LINE - 9)),
+        ("disallow:", b'*', told(0, 10, 9, MOST_LINE - 9)),
+        ("disallow:$", b'*', told(0, 11, 9, MOST_LINE - 9)),
         ("disallow:/", 0xC3, told(0, 11, 9, MOST_LINE - 9)),
         ("user-agent:", b'a', told(0, 4, 11, MOST_LINE - 11)),
         ("user-agent:", b'*', told(0, 5, 11, MOST_LINE - 11)),
@@ -42,7 +44,7 @@ fn the_longest_line() {
 /// What decides stands at the very end of the longest line.
 #[test]
 fn the_last_octet_of_the_longest_line() {
-    for beginning in ["", "x", "allow:/", "user-agent:a", "allow:/#"] {
+    for beginning in ["", "x", "allow:/", "allow:*", "user-agent:a", "allow:/#"] {
         let octet = if beginning.is_empty() { b' ' } else { b'a' };
         let mut line = lengthened(beginning.as_bytes(), &[octet], b"", MOST_LINE);
         for last in *b"\r\n#: \t\xC3\x80\x7Fa" {
@@ -123,7 +125,15 @@ const NEIGHBOURS: [(&str, &str); 5] = [("", ""), ("#", "#"), ("%", "41"), ("\n",
 fn memory_around_the_line_is_unseen() {
     for (before, after) in NEIGHBOURS {
         for start in before.len()..16 {
-            for line in ["", "x", "allow:/x", "user-agent:bot", "disallow:/%", " "] {
+            for line in [
+                "",
+                "x",
+                "allow:/x",
+                "allow:*",
+                "user-agent:bot",
+                "disallow:/%",
+                " ",
+            ] {
                 let memory = surrounded(line, before, after, start);
                 let inside = &memory[start..start + line.len()];
                 let answer = told(

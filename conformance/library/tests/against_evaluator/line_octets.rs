@@ -1,11 +1,14 @@
 //! Every octet in every part of a line.
 
+use evaluator::LineKind;
+
 use crate::ask::{check_line, each_between, each_two_between};
 use crate::texts::TAILS;
 
 const NAMES: [&[u8]; 3] = [b"user-agent", b"allow", b"disallow"];
 
-/// Values of all sorts: of readable and unreadable agents and patterns.
+/// Values of all sorts: of readable and unreadable agents and patterns. The
+/// star is a readable one of both.
 const VALUES: [&[u8]; 4] = [b"bot", b"*", b"/x", b""];
 
 /// Checks the lines that have each octet between these two parts.
@@ -111,10 +114,61 @@ fn in_an_agents_value() {
 #[test]
 fn in_a_pattern() {
     for colon in [b"allow:".as_slice(), b"disallow:", b"\tDisallow : "] {
-        for (before, after) in [("", ""), ("", "/x"), ("/", "x"), ("/x", "")] {
+        for (before, after) in [
+            ("", ""),
+            ("", "/x"),
+            ("", "*"),
+            ("/", "x"),
+            ("/x", ""),
+            ("*", ""),
+        ] {
             let before = [colon, before.as_bytes()].concat();
             check_between(&before, after.as_bytes());
             check_two_between(&before, after.as_bytes());
+        }
+    }
+}
+
+/// Library and evaluator give these numbers.
+fn check_told(line: &[u8], [refusal, kind, place, length]: [usize; 4]) {
+    let expected = LineKind {
+        refusal,
+        kind,
+        place,
+        length,
+    };
+    assert_eq!(check_line(line), expected, "{}", line.escape_ascii());
+}
+
+/// "a readable pattern begins with "/" or "*"" (M-102).
+#[test]
+fn as_the_first_octet_of_a_pattern() {
+    for octet in 0..=255 {
+        let line = [b"allow:", [octet].as_slice(), b"x"].concat();
+        match octet {
+            b'\r' | b'\n' => check_told(&line, [9, 0, 0, 0]),
+            // comment from there on
+            b'#' => check_told(&line, [0, 6, 0, 0]),
+            // dropped, and "x" is the pattern
+            b' ' | b'\t' => check_told(&line, [0, 8, 7, 1]),
+            b'/' | b'*' => check_told(&line, [0, 7, 6, 2]),
+            _ => check_told(&line, [0, 8, 6, 2]),
+        }
+    }
+}
+
+/// "no octet under 0x21; 0x7F is accepted", and no octet over it is a character
+/// by itself.
+#[test]
+fn behind_a_star() {
+    for octet in 0..=255 {
+        let line = [b"disallow:*".as_slice(), &[octet]].concat();
+        match octet {
+            b'\r' | b'\n' => check_told(&line, [9, 0, 0, 0]),
+            // comment, or dropped: "*" is the pattern
+            b'#' | b' ' | b'\t' => check_told(&line, [0, 10, 9, 1]),
+            0x21..=0x7F => check_told(&line, [0, 10, 9, 2]),
+            _ => check_told(&line, [0, 11, 9, 2]),
         }
     }
 }
@@ -150,6 +204,8 @@ fn two_octets_of_utf8() {
     check_two_between(b"allow:/", b"\x80");
     check_two_between(b"allow:/", b"\x80\x80");
     check_two_between(b"allow:/", b"\xBF\xBF\xBF");
+    check_two_between(b"disallow:*", b"\x80");
+    check_two_between(b"disallow:*", b"\x80\x80");
 }
 
 /// Each octet as the second and as the third of three.

@@ -31,6 +31,8 @@ fn longest_patterns_of_one_run() {
         check_longest((b"/*", b"a", b""), &path, false, 1);
         check_longest((b"/*", b"a", b"$"), &path, false, 1);
         check_longest((b"/*", b"%", b""), &path, false, 1);
+        check_longest((b"*", b"a", b""), &path, false, 0);
+        check_longest((b"*", b"%", b"$"), &path, false, 0);
         // the first run alone is
         check_longest((b"/", b"a", b"*"), &path, false, 0);
         check_longest((b"/", b"a", b"*$"), &path, false, 0);
@@ -47,6 +49,8 @@ fn longest_patterns_of_stars() {
     for path in [slash_and(b'%', MOST_PATH), b"/".to_vec()] {
         check_longest((b"/", b"*", b""), &path, true, 1);
         check_longest((b"/", b"*", b"$"), &path, true, 1);
+        check_longest((b"", b"*", b""), &path, true, 0);
+        check_longest((b"", b"*", b"$"), &path, true, 0);
     }
     let path = slash_and(b'a', MOST_PATH);
     // "a" at 1
@@ -56,6 +60,10 @@ fn longest_patterns_of_stars() {
     // "b" at 1 to 2,047
     check_longest((b"/", b"*", b"b"), &path, false, MOST_PATH);
     check_longest((b"/", b"*", b"b$"), &path, false, 2);
+    // "a" at 0 and 1, and at 2,047 only; "b" at 0 to 2,047
+    check_longest((b"", b"*", b"a"), &path, true, 2);
+    check_longest((b"", b"*", b"a$"), &path, true, 1);
+    check_longest((b"", b"*", b"b"), &path, false, MOST_PATH);
 }
 
 /// "After the first failed run the rule is done."
@@ -66,6 +74,8 @@ fn longest_patterns_of_stars_and_octets() {
     check_longest((b"/", b"*a", b""), &path, false, MOST_PATH);
     check_longest((b"/", b"*a", b"$"), &path, false, MOST_PATH);
     check_longest((b"/", b"*a", b""), b"/a", false, 2);
+    // the first "a" at 0 too, where "/" stands
+    check_longest((b"", b"*a", b""), &path, false, MOST_PATH);
     check_longest((b"/", b"a*", b""), &path, false, MOST_PATH);
     // as many as the path has, and then stars
     let all = [b"/".as_slice(), &b"*a".repeat(MOST_PATH - 1)].concat();
@@ -128,6 +138,16 @@ fn longest_runs() {
     check(b"/*", b"zz", false, 1);
     check(b"/*", b"%", false, 1);
     check(b"/*/", b"", false, 1);
+    // behind a star: 6,142 octets at 0, and 6,141 at 0 and 1, or at 1 only
+    check(b"*/", b"", true, MOST_NORMALISED);
+    check(b"*/", b"$", true, MOST_NORMALISED);
+    check(b"*/", b"z", false, 0);
+    check(b"*", b"", true, MOST_NORMALISED);
+    check(b"*", b"$", true, MOST_NORMALISED - 1);
+    // 6,142 octets, which only begin at 0, and one more
+    check(b"*", b"z", false, 1);
+    check(b"*", b"z$", false, 1);
+    check(b"*", b"zz", false, 0);
 }
 
 /// Patterns that are longer than any path, and match: normalised they are as
@@ -162,7 +182,9 @@ const NEIGHBOURS: [(&str, &str); 7] = [
 /// lies before and behind them isn't seen.
 #[test]
 fn memory_around_pattern_and_path_is_unseen() {
-    let texts = ["", "/", "/a", "/%", "/%4", "/a*", "/*a", "/a$"];
+    let texts = [
+        "", "/", "/a", "/%", "/%4", "/a*", "/*a", "/a$", "*", "*a", "*$",
+    ];
     for (before, after) in NEIGHBOURS {
         for start in before.len()..before.len() + 8 {
             for (pattern, path) in pairs(&texts) {
@@ -214,8 +236,9 @@ const STACK: usize = 32 * 1_024;
 #[test]
 fn a_small_stack_is_enough() {
     let path = slash_and(b'%', MOST_PATH);
-    for block in ["a", "*", "%", "*%", "*5", "%25*"] {
-        let pattern = lengthened(b"/", block.as_bytes(), b"$", MOST_PATTERN);
+    let blocks = ["a", "*", "%", "*%", "*5", "%25*"].map(|block| ("/", block));
+    for (first, block) in blocks.into_iter().chain([("*", "5*"), ("*", "%")]) {
+        let pattern = lengthened(first.as_bytes(), block.as_bytes(), b"$", MOST_PATTERN);
         let expected = evaluator::match_pattern(&pattern, &path);
         let answer = thread::scope(|scope| {
             thread::Builder::new()

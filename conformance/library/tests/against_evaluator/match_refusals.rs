@@ -11,8 +11,12 @@ fn patterns() -> Inputs {
     let mut patterns = vec![
         (b"/".to_vec(), None),
         (b"/*$".to_vec(), None),
+        (b"*".to_vec(), None),
+        (b"**$".to_vec(), None),
         (slash_and(b'*', MOST_PATTERN), None),
+        (vec![b'*'; MOST_PATTERN], None),
         (slash_and(b'*', MOST_PATTERN + 1), Some(1)),
+        (vec![b'*'; MOST_PATTERN + 1], Some(1)),
         (vec![b' '; MOST_PATTERN + 1], Some(1)),
         (slash_and(0xFF, MOST_PATTERN + 1), Some(1)),
     ];
@@ -22,17 +26,22 @@ fn patterns() -> Inputs {
     patterns
 }
 
-/// "pattern empty or unreadable": "begins with "/", and is well-formed by the
-/// RFC's UTF8-char-noctl rule (no octet under 0x21; 0x7F is accepted;
-/// surrogates and overlong forms aren't)".
-const UNREADABLE: [&[u8]; 26] = [
+/// "pattern empty or unreadable": "a readable pattern begins with "/" or "*""
+/// (M-102) "and is well-formed by the RFC's UTF8-char-noctl rule (no octet
+/// under 0x21; 0x7F is accepted; surrogates and overlong forms aren't)".
+const UNREADABLE: [&[u8]; 31] = [
     b"",
     b"a",
-    b"*",
     b"$",
-    b"*/",
+    b"$*",
     b"$/",
     b"%2F",
+    b"%2A",
+    b" *",
+    b"* ",
+    b"*#",
+    b"*\xC3",
+    b"**\x80",
     b" /",
     b"/ ",
     b"/a b",
@@ -65,8 +74,11 @@ fn the_smallest_number_first() {
         for (path, of_path) in paths() {
             match of_pattern.into_iter().chain(of_path).min() {
                 Some(refusal) => check_refused_match(&pattern, &path, refusal),
-                // each good pattern is "/", and stars perhaps
-                None => check_walk(&pattern, &path, true, 1),
+                // each good pattern is stars, behind a "/" perhaps, which costs 1
+                None => {
+                    let compared = usize::from(pattern.starts_with(b"/"));
+                    check_walk(&pattern, &path, true, compared);
+                }
             }
         }
     }
@@ -91,6 +103,11 @@ fn two_refusals_at_once() {
         (b"/#", b"/#", 5),
         (b"/#", b"/", 8),
         (b"", b"/", 8),
+        (b"*", b"", 3),
+        (b"*", b"*", 4),
+        (b"*#", b"/#", 5),
+        (b"*#", b"/", 8),
+        (b"$", b"/", 8),
     ] {
         check_refused_match(pattern, path, refusal);
     }
@@ -112,6 +129,14 @@ fn readable_patterns() {
         // "/", and "%" and two digits for each octet
         let text = format!("/{character}");
         check_walk(text.as_bytes(), text.as_bytes(), true, 1 + 3 * triples);
+        // behind a star, tried at 0 too: the first octet differs
+        let star_first = format!("*{character}");
+        check_walk(
+            star_first.as_bytes(),
+            text.as_bytes(),
+            true,
+            1 + 3 * triples,
+        );
     }
     check_walk(b"/!", b"/!", true, 2);
     check_walk(b"/\"", b"/\"", true, 2);

@@ -11,10 +11,10 @@ fn check_between(before: &[u8], after: &[u8], path: &[u8]) {
 }
 
 /// Checks the patterns that have each two octets between these two parts,
-/// each against the path of the same octets.
+/// each against the path of the same octets, with "/" as its first.
 fn check_two_between(before: &[u8], after: &[u8]) {
     each_two_between(before, after, |pattern| {
-        check_match(pattern, pattern);
+        check_match(pattern, &[b"/", &pattern[1..]].concat());
     });
 }
 
@@ -43,6 +43,43 @@ fn the_same_octet_in_pattern_and_path() {
     }
 }
 
+/// The same octet behind a star in the pattern and behind "/" in the path. The
+/// run is tried at 0 first.
+#[test]
+fn the_same_octet_behind_a_star() {
+    for octet in 0..=255 {
+        let (pattern, path) = ([b'*', octet], [b'/', octet]);
+        match octet {
+            0..=0x20 | b'#' => check_refused_match(&pattern, &path, 5),
+            // nothing but empty runs
+            b'*' | b'$' => check_walk(&pattern, &path, true, 0),
+            // stands at 0
+            b'/' => check_walk(&pattern, &path, true, 1),
+            // "%" and two digits: 1 at 0 and 3 at 1
+            b'%' | 0x7F => check_walk(&pattern, &path, true, 4),
+            0x80.. => check_refused_match(&pattern, &path, 8),
+            // 1 at 0 and 1 at 1
+            _ => check_walk(&pattern, &path, true, 2),
+        }
+    }
+}
+
+/// "a readable pattern begins with "/" or "*"" (M-102).
+#[test]
+fn the_first_octet() {
+    for octet in 0..=255 {
+        for (rest, of_slash, of_star) in [("", 1, 0), ("*$", 1, 0), ("a", 2, 2), ("a$", 2, 1)] {
+            let pattern = [&[octet], rest.as_bytes()].concat();
+            match octet {
+                b'/' => check_walk(&pattern, b"/a", true, of_slash),
+                // "a" at 0 and 1, with an end mark at 1 only
+                b'*' => check_walk(&pattern, b"/a", true, of_star),
+                _ => check_refused_match(&pattern, b"/a", 8),
+            }
+        }
+    }
+}
+
 /// The octet behind "/" in the pattern, "%" and its two digits in the path.
 #[test]
 fn an_octet_and_its_escape() {
@@ -61,11 +98,13 @@ fn an_octet_and_its_escape() {
     }
 }
 
-/// Every octet behind "/" in the pattern with every one in the path.
+/// Every octet behind "/" and behind a star in the pattern with every one in
+/// the path.
 #[test]
 fn every_two_octets() {
     for held in 0..=255 {
         check_between(b"/", b"", &[b'/', held]);
+        check_between(b"*", b"", &[b'/', held]);
         check_between(b"", b"/", &[held]);
     }
 }
@@ -76,6 +115,9 @@ fn in_every_place() {
     for (before, after) in [
         ("", ""),
         ("", "/a"),
+        ("", "*b"),
+        ("*", ""),
+        ("*", "b$"),
         ("/", "a"),
         ("/a", ""),
         ("/a", "$"),
@@ -106,6 +148,7 @@ fn both_digits_of_an_escape() {
     check_two_between(b"/%", b"*");
     check_two_between(b"/%", b"$");
     check_two_between(b"/*%", b"");
+    check_two_between(b"*%", b"");
 }
 
 /// Stars and end marks in the place of digits.
@@ -120,6 +163,7 @@ fn escapes_cut_short() {
             check_match(format!("/{end}").as_bytes(), path.as_bytes());
             check_match(format!("/a{end}").as_bytes(), path.as_bytes());
             check_match(format!("/*{end}").as_bytes(), path.as_bytes());
+            check_match(format!("*{end}").as_bytes(), path.as_bytes());
         }
     }
 }
@@ -130,17 +174,21 @@ fn two_octets_of_utf8() {
     for after in [b"".as_slice(), b"x", b"*", b"$", b"\x80"] {
         check_two_between(b"/", after);
     }
+    check_two_between(b"*", b"");
+    check_two_between(b"", b"");
 }
 
-/// Each octet in each place of three and of four.
+/// Each octet in each place of three and of four, behind "/" and behind a star
+/// by turns.
 #[test]
 fn more_octets_of_utf8() {
     for lead in 0xDF..=0xF6 {
         for one in TAILS {
             for other in TAILS {
-                check_between(&[b'/', lead, one, other], b"", b"/x");
-                check_between(&[b'/', lead, one], &[other], b"/x");
-                check_between(&[b'/', lead], &[one, other], b"/x");
+                let first = b"/*"[usize::from((lead ^ one ^ other) % 2)];
+                check_between(&[first, lead, one, other], b"", b"/x");
+                check_between(&[first, lead, one], &[other], b"/x");
+                check_between(&[first, lead], &[one, other], b"/x");
             }
         }
     }

@@ -7,7 +7,7 @@ const LINES: [&str; 9] = [
     "user-agent: *",
     "user-agent: b",
     "user-agent: 9",
-    "allow: /x",
+    "allow: *x",
     "disallow: /",
     "disallow: x",
     "allow:",

@@ -9,7 +9,7 @@ use crate::texts::MOST_NORMALISED;
 
 /// How many rows ask for a decision, for a normalised path, for a line's kind,
 /// and for a match.
-const DECIDE_ROWS: usize = 155;
+const DECIDE_ROWS: usize = 158;
 const NORMALISE_ROWS: usize = 16;
 const LINE_ROWS: usize = 29;
 const MATCH_ROWS: usize = 89;

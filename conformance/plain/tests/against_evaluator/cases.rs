@@ -10,8 +10,8 @@ use generator::SEED;
 use crate::deciding::{check_decide, question_shown};
 
 /// How many of the examples, and of the definitions' rows, ask for a decision.
-const EXAMPLES: usize = 155;
-const ROWS: usize = 70;
+const EXAMPLES: usize = 158;
+const ROWS: usize = 90;
 
 /// Generated questions of each of two sorts, with long files, and walks of each
 /// of two sorts.
