@@ -82,24 +82,16 @@ fn as_many_lines_as_fit() {
 
 #[test]
 fn dear_rules() {
-    // As many tries as can be made, for the path "/aaa...".
-    let line = [b"disallow:/*".as_slice(), &[b'a'; 1_024], b"b\n"].concat();
-    let (file, times) = filled(&line);
-    assert_eq!(times, 493);
-    let decision = decide(&file, b"a", &path_of(2_048, b'a'));
-    assert!(!decision.disallow);
-    assert_eq!(decision.compared, 493 * (1 + 1_023 * 1_025));
-}
-
-#[test]
-fn dear_rules_that_begin_with_a_star() {
-    // The run is tried at 0 too: one pair, for the "/".
-    let line = [b"disallow:*".as_slice(), &[b'a'; 1_024], b"b\n"].concat();
-    let (file, times) = filled(&line);
-    assert_eq!(times, 494);
-    let decision = decide(&file, b"a", &path_of(2_048, b'a'));
-    assert!(!decision.disallow);
-    assert_eq!(decision.compared, 494 * (1 + 1_023 * 1_025));
+    // As many tries as can be made, for the path "/aaa...". Behind a first star
+    // the run is tried at 0 too: one pair, as many as the "/" costs.
+    for (first, rules) in [(b"/*".as_slice(), 493), (b"*", 494)] {
+        let line = [b"disallow:", first, &[b'a'; 1_024], b"b\n"].concat();
+        let (file, times) = filled(&line);
+        assert_eq!(times, rules);
+        let decision = decide(&file, b"a", &path_of(2_048, b'a'));
+        assert!(!decision.disallow);
+        assert_eq!(decision.compared, rules * (1 + 1_023 * 1_025));
+    }
 }
 
 #[test]
