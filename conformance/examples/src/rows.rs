@@ -18,16 +18,19 @@ impl Row {
 /// A text that rows call by its name.
 const NAMED: &str = "simpleExample";
 
-/// What stands below `name =`, moved in, as one text in parentheses.
-fn spelt_out(text: &str, name: &str) -> Option<String> {
-    let (_, below) = text.split_once(&format!("\n{name} =\n"))?;
+/// What stands below its `=`, moved in, as one text in parentheses; `()` where
+/// no text has the name.
+fn named_text(text: &str) -> String {
+    let (_, below) = text
+        .split_once(&format!("\n{NAMED} =\n"))
+        .unwrap_or_default();
     let lines = below.lines().map_while(|line| line.strip_prefix("    "));
-    Some(format!("({})", lines.collect::<Vec<_>>().join(" ")))
+    format!("({})", lines.collect::<Vec<_>>().join(" "))
 }
 
 /// The rows of these sorts, with what the named text holds in its place.
 pub fn read(file: &'static str, text: &str, sorts: &[&str]) -> Vec<Row> {
-    let named = spelt_out(text, NAMED).unwrap_or_default();
+    let named = named_text(text);
     let numbered = text.lines().enumerate();
     numbered
         .filter_map(|(at, line)| {

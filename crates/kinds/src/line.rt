@@ -2,13 +2,11 @@
 
 ghost use mathlib.Core.Path.{_≡_};
 ghost use Prim.Native.Nat.{_≤_};
-ghost use mathlib.Core.Bool.{true};
-ghost use mathlib.Core.List.{[]};
 ghost use lib.ListN.{length, drop};
 ghost use Rattle.lists.specs.Lists.{upTo};
 ghost use Rattle.protocol.specs.Text.{trimEnd};
 ghost use Rattle.protocol.specs.Lines.{lineText};
-ghost use Rattle.protocol.specs.Readable.{wellFormed};
+ghost use Rattle.protocol.specs.Readable.{readablePattern};
 ghost use Rattle.protocol.specs.Kinds.{agentAt, patternAt, kindOf};
 ghost use Rattle.fields.specs.declared.Field.{Field};
 ghost use Rattle.fields.specs.Fields.{fieldOf, sideOf, headOf, stop, delimiter, ended, valueAt};
@@ -34,14 +32,15 @@ fn agent_at(place: Place, value: &[u8]) -> Agent
     }
 }
 
-// The pattern of a value, likewise.
-fn pattern_at(place: Place, value: &[u8]) -> Pattern
+// The pattern of a value, likewise; whether it is readable has been asked.
+fn pattern_at(place: Place, value: &[u8], readable: bool) -> Pattern
+    requires { ⌜ readable ≡ readablePattern (now value) ⌝ }
     ensures { λ r. ⌜ r ≡ patternAt place (now (value .entry)) ⌝ }
 {
     if value.len() == 0 {
         return Pattern::Empty;
     }
-    if readable::readable_pattern(value) {
+    if readable {
         Pattern::Readable(place, value.len())
     } else {
         Pattern::Unreadable(place, value.len())
@@ -105,33 +104,21 @@ fn ends_at(s: &[u8], at: Place) -> bool
     is_stop(s[i])
 }
 
-// The pattern of a value of whole characters.
-fn formed_pattern(place: Place, value: &[u8]) -> Pattern
-    requires { ⌜ wellFormed [] (now value) ≡ true ⌝ }
-    ensures { λ r. ⌜ r ≡ patternAt place (now (value .entry)) ⌝ }
-{
-    if value.len() == 0 {
-        return Pattern::Empty;
-    }
-    if readable::pattern_start(value) {
-        return Pattern::Readable(place, value.len());
-    }
-    Pattern::Unreadable(place, value.len())
-}
-
 // The pattern of the value that begins there. Most are of ordinary octets alone, which hold no space and are whole characters.
-fn pattern_of(r: &[u8], value: Place) -> Pattern
-    requires { ⌜ value .offset ≤ length (now r) ⌝ }
-    ensures { λ p. ⌜ p ≡ patternAt value (valueAt value (now (r .entry))) ⌝ }
+fn pattern_of(r: &[u8], place: Place) -> Pattern
+    requires { ⌜ place .offset ≤ length (now r) ⌝ }
+    ensures { λ p. ⌜ p ≡ patternAt place (valueAt place (now (r .entry))) ⌝ }
 {
-    let start = value.offset;
+    let start = place.offset;
     let rest = &r[start..];
     let n = readable::ordinary_front(rest);
     if ends_at(rest, Place { offset: n }) {
-        return formed_pattern(value, &rest[..n]);
+        let whole = &rest[..n];
+        return pattern_at(place, whole, readable::pattern_start(whole));
     }
     let end = value_length(rest);
-    pattern_at(value, &rest[..end])
+    let value = &rest[..end];
+    pattern_at(place, value, readable::readable_pattern(value))
 }
 
 // A colon or a stop. Most octets are past all of them.

@@ -6,20 +6,17 @@ use Rattle.kinds.proofs.line.pattern_at.Statement.{statement}
 use Rattle.kinds.proofs.line.pattern_at.Tie as tie
 
 returns : tie.Need-returns
-returns c = let a = c .before .before .args in pattern-none (a .value .now) (a .place) (omega arith)
-
-readable-pattern-requires : tie.Need-readable-pattern-requires
-readable-pattern-requires c κs = tt
+returns c = let a = c .before .args in pattern-none (a .value .now) (a .place) (c .if1 .taken)
 
 returns-2 : tie.Need-returns-2
 returns-2 c =
-    let a = c .before .before .before .before .args in
-    pattern-readable (a .value .now) (a .place) (omega arith) (sym (c .before .readable-pattern .ensures) ∙ c .if2 .taken)
+    let start = c .before .before in
+    pattern-readable (start .args .value .now) (start .args .place) (omega arith) (sym (start .pre) ∙ c .if2 .taken)
 
 returns-3 : tie.Need-returns-3
 returns-3 c =
-    let a = c .before .before .before .before .args in
-    pattern-unreadable (a .value .now) (a .place) (omega arith) (sym (c .before .readable-pattern .ensures) ∙ c .if2 .left)
+    let start = c .before .before in
+    pattern-unreadable (start .args .value .now) (start .args .place) (omega arith) (sym (start .pre) ∙ c .if2 .left)
 
 pub pattern-at-spec : {M : Type 1} → statement M
-pattern-at-spec = tie.close (tie.spec returns readable-pattern-requires returns-2 returns-3)
+pattern-at-spec = tie.close (tie.spec returns returns-2 returns-3)

@@ -13,7 +13,7 @@ use Rattle.protocol.specs.Readable.{wellFormed}
 use Rattle.protocol.specs.Kinds.{patternAt}
 use Rattle.readable.specs.Due.{unusual}
 use Rattle.fields.specs.Fields.{ended, valueAt}
-use Rattle.kinds.proofs.Fronts.{value-fits, value-of, value-at, front-value, front-formed}
+use Rattle.kinds.proofs.Fronts.{value-fits, value-of, value-at, front-value, front-formed, formed-readable}
 use Rattle.kinds.proofs.line.pattern_of.Statement.{statement}
 use Rattle.kinds.proofs.line.pattern_of.Tie as tie
 
@@ -37,11 +37,11 @@ module _ (c : tie.After-ordinary-front) where
   abbrev text : List ℕ
   text = c .before .before .before .args .r .now
 
-  abbrev value : Place
-  value = c .before .before .before .args .value
+  abbrev place : Place
+  place = c .before .before .before .args .place
 
   abbrev rest : List ℕ
-  rest = take (length text - value .offset) (drop (value .offset) text)
+  rest = take (length text - place .offset) (drop (place .offset) text)
 
   abbrev front : ℕ
   front = c .ordinary-front .result
@@ -52,23 +52,26 @@ module _ (c : tie.After-ordinary-front) where
   formed : wellFormed [] (take front rest) ≡ true
   formed = front-formed rest front (c .ordinary-front .ensures)
 
-  front-told : ended (drop front rest) ≡ true → take front rest ≡ valueAt value text
-  front-told e = front-value rest front (c .ordinary-front .ensures) e ∙ value-of text value
+  front-told : ended (drop front rest) ≡ true → take front rest ≡ valueAt place text
+  front-told e = front-value rest front (c .ordinary-front .ensures) e ∙ value-of text place
 
 -- nothing is examined behind them
 abbrev whole : tie.Then1 → tie.After-ordinary-front
 whole c = c .before .before
 
-slice-aggregate-formed-pattern : tie.Need-slice-aggregate-formed-pattern
-slice-aggregate-formed-pattern c = let f = whole (c .before) in sym (length-take-le (front f) (rest f) (front-in f))
+slice-aggregate-whole : tie.Need-slice-aggregate-whole
+slice-aggregate-whole c = let f = whole (c .before) in sym (length-take-le (front f) (rest f) (front-in f))
 
-formed-pattern-requires : tie.Need-formed-pattern-requires
-formed-pattern-requires c κs = formed (whole (c .before))
+pattern-start-requires : tie.Need-pattern-start-requires
+pattern-start-requires c κs = tt
+
+pattern-at-requires : tie.Need-pattern-at-requires
+pattern-at-requires c κs = c .pattern-start .ensures ∙ sym (formed-readable _ (formed (whole (c .before .before))))
 
 returns : tie.Need-returns
 returns c =
-    let t = c .before .before in
-    c .formed-pattern .ensures ∙ ap (patternAt (value (whole t))) (front-told (whole t) (sym (t .before .ends-at .ensures) ∙ t .if1 .taken))
+    let t = c .before .before .before in
+    c .pattern-at .ensures ∙ ap (patternAt (place (whole t))) (front-told (whole t) (sym (t .before .ends-at .ensures) ∙ t .if1 .taken))
 
 value-length-requires : tie.Need-value-length-requires
 value-length-requires c κs = tt
@@ -84,17 +87,22 @@ module _ (c : tie.After-value-length) where
   size-in : size ≤ length (rest seen)
   size-in = omega (arith, c .value-length .ensures, value-fits (rest seen))
 
-  told : take size (rest seen) ≡ valueAt (value seen) (text seen)
-  told = value-at (text seen) (value seen) size (c .value-length .ensures)
+  told : take size (rest seen) ≡ valueAt (place seen) (text seen)
+  told = value-at (text seen) (place seen) size (c .value-length .ensures)
 
-slice-aggregate-pattern-at : tie.Need-slice-aggregate-pattern-at
-slice-aggregate-pattern-at c = sym (length-take-le (size (c .before)) (rest (seen (c .before))) (size-in (c .before)))
+slice-aggregate-value : tie.Need-slice-aggregate-value
+slice-aggregate-value c = sym (length-take-le (size (c .before)) (rest (seen (c .before))) (size-in (c .before)))
 
-pattern-at-requires : tie.Need-pattern-at-requires
-pattern-at-requires c κs = tt
+readable-pattern-requires : tie.Need-readable-pattern-requires
+readable-pattern-requires c κs = tt
+
+pattern-at-requires-2 : tie.Need-pattern-at-requires-2
+pattern-at-requires-2 c κs = c .readable-pattern .ensures
 
 returns-2 : tie.Need-returns-2
-returns-2 c = c .pattern-at .ensures ∙ ap (patternAt (value (seen (c .before .before)))) (told (c .before .before))
+returns-2 c =
+    let v = c .before .before .before in
+    c .pattern-at2 .ensures ∙ ap (patternAt (place (seen v))) (told v)
 
 pub pattern-of-spec : {M : Type 1} → statement M
 pattern-of-spec =
@@ -105,10 +113,12 @@ pattern-of-spec =
     part-rest-end
     ordinary-front-requires
     ends-at-requires
-    slice-aggregate-formed-pattern
-    formed-pattern-requires
+    slice-aggregate-whole
+    pattern-start-requires
+    pattern-at-requires
     returns
     value-length-requires
-    slice-aggregate-pattern-at
-    pattern-at-requires
+    slice-aggregate-value
+    readable-pattern-requires
+    pattern-at-requires-2
     returns-2)
