@@ -66,15 +66,20 @@ enum robots_refusal {
 };
 
 /*
- * The kinds of lines. A readable pattern begins with "/" or "*"; the rest is
- * told below, with one pattern against one path.
+ * The kinds of lines. The name of a user-agent line is the longest beginning of
+ * its value that holds A-Z a-z - _ only, and what stands behind it, such as a
+ * version, is ignored: "ExampleBot/2.1" names ExampleBot. The line is unreadable
+ * if that beginning is empty and the value isn't exactly "*". A readable pattern
+ * begins with "/" or "*"; the rest is told below, with one pattern against one
+ * path.
  */
 enum robots_kind {
     ROBOTS_KIND_REFUSED = 0,             /* no kind: see robots_line_refusal */
     ROBOTS_KIND_BLANK = 1,               /* empty, spaces, or a comment only */
     ROBOTS_KIND_NOISE = 2,               /* no colon */
     ROBOTS_KIND_OTHER = 3,               /* a field that isn't named below */
-    ROBOTS_KIND_AGENT_READABLE = 4,      /* user-agent: "*" or a name */
+    ROBOTS_KIND_AGENT_READABLE = 4,      /* user-agent: "*", or begins with a
+                                            name */
     ROBOTS_KIND_AGENT_UNREADABLE = 5,    /* user-agent: anything else */
     ROBOTS_KIND_ALLOW_EMPTY = 6,         /* allow: no pattern */
     ROBOTS_KIND_ALLOW_READABLE = 7,      /* allow: a readable pattern */
@@ -98,9 +103,10 @@ enum robots_limit {
  * May a crawler fetch a path, by a rules file?
  *
  * `file` is a whole robots.txt as it was fetched; it may be empty. `name` is
- * the crawler's name as user-agent lines write it: it is compared with theirs
- * ignoring ASCII case, and is equal or different. `path` is given raw, with its
- * query if any.
+ * the crawler's name, without a version: it is compared with the names of
+ * user-agent lines, as told above, ignoring ASCII case, and is equal or
+ * different; ExampleBot isn't met by "Example", nor by "ExampleBot-News". `path`
+ * is given raw, with its query if any.
  *
  * If any group of the file names the crawler, the rules of all such groups
  * apply; otherwise those of all groups that name "*"; otherwise none. Of the
@@ -241,8 +247,8 @@ size_t robots_line_kind(const uint8_t *line, size_t line_length);
 size_t robots_line_place(const uint8_t *line, size_t line_length);
 
 /*
- * The length of an agent's value or a rule's pattern, without the spaces and
- * tabs around it and without a comment.
+ * The length of an agent's value, with what stands behind its name, or of a
+ * rule's pattern, without the spaces and tabs around it and without a comment.
  *
  * Answers 0 if the line is refused, if that value or pattern is empty, and
  * for every other kind of line.

@@ -93,6 +93,10 @@ static const struct decide_row decide_rows[] = {
     /* "*" weighs 1 and compares nothing; "$" begins no readable pattern */
     {{TEXT("user-agent: a\ndisallow: /\nallow: *")}, {TEXT("a")}, {TEXT("/x")}, ROBOTS_ANSWERED, 0, 3, 33, {TEXT("*")}, 0, 1},
     {{TEXT("user-agent: a\nallow: $*\ndisallow: *")}, {TEXT("a")}, {TEXT("/x")}, ROBOTS_ANSWERED, 1, 3, 34, {TEXT("*")}, 1, 0},
+    /* "The value's name is now its longest beginning of A-Z a-z - _ ; the rest is ignored." (M-105) */
+    {{TEXT("user-agent: *\nallow: /\nuser-agent: DrydockBot/2.1\ndisallow: /x")}, {TEXT("drydockbot")}, {TEXT("/x")}, ROBOTS_ANSWERED, 1, 4, 60, {TEXT("/x")}, 0, 2},
+    {{TEXT("user-agent: *\nallow: /\nuser-agent: DrydockBot/2.1\ndisallow: /x")}, {TEXT("Drydock")}, {TEXT("/x")}, ROBOTS_ANSWERED, 0, 2, 21, {TEXT("/")}, 0, 1},
+    {{TEXT("user-agent: Bot\0\nuser-agent: */2\ndisallow: /x")}, {TEXT("bot")}, {TEXT("/x")}, ROBOTS_ANSWERED, 1, 3, 43, {TEXT("/x")}, 1, 2},
     /* "/robots.txt?x isn't that path" */
     {{TEXT("user-agent: *\ndisallow: /")}, {TEXT("a")}, {TEXT("/robots.txt?x")}, ROBOTS_ANSWERED, 1, 2, 24, {TEXT("/")}, 0, 1},
     /* "The unread count is the number of unreadable agent and rule lines in the whole file." */
@@ -101,6 +105,7 @@ static const struct decide_row decide_rows[] = {
     {{TEXT("user-agent: 9\nuser-agent: *\nallow: /")}, {TEXT("")}, {TEXT("")}, ROBOTS_REFUSED_NAME, REFUSED},
     {{TEXT("user-agent: 9\nuser-agent: *\nallow: /")}, {TEXT("*")}, {TEXT("/")}, ROBOTS_REFUSED_NAME, REFUSED},
     {{TEXT("user-agent: 9\nuser-agent: *\nallow: /")}, {TEXT("a\0")}, {TEXT("/")}, ROBOTS_REFUSED_NAME, REFUSED},
+    {{TEXT("user-agent: a/2\nallow: /")}, {TEXT("a/2")}, {TEXT("/")}, ROBOTS_REFUSED_NAME, REFUSED},
     {{TEXT("user-agent: 9\nuser-agent: *\nallow: /")}, {TEXT("a")}, {TEXT("")}, ROBOTS_REFUSED_PATH_LENGTH, REFUSED},
     {{TEXT("user-agent: 9\nuser-agent: *\nallow: /")}, {TEXT("a")}, {TEXT("a#")}, ROBOTS_REFUSED_PATH_START, REFUSED},
     {{TEXT("user-agent: 9\nuser-agent: *\nallow: /")}, {TEXT("a")}, {TEXT("/#")}, ROBOTS_REFUSED_PATH_OCTET, REFUSED},
@@ -140,10 +145,13 @@ static const struct line_row line_rows[] = {
     {{TEXT("allow\0: /")}, ROBOTS_ANSWERED, ROBOTS_KIND_OTHER, 0, 0},
     /* "the value what follows" the first colon */
     {{TEXT("disallow: /a:b")}, ROBOTS_ANSWERED, ROBOTS_KIND_DISALLOW_READABLE, 10, 4},
-    /* "readable if its value is "*" or one or more octets of A-Z a-z - _" */
+    /* "unread exactly if that beginning is empty and the value isn't exactly "*"" (M-105) */
     {{TEXT("user-agent: *")}, ROBOTS_ANSWERED, ROBOTS_KIND_AGENT_READABLE, 12, 1},
     {{TEXT("user-agent: Foo_bot-")}, ROBOTS_ANSWERED, ROBOTS_KIND_AGENT_READABLE, 12, 8},
-    {{TEXT("user-agent: bot9")}, ROBOTS_ANSWERED, ROBOTS_KIND_AGENT_UNREADABLE, 12, 4},
+    {{TEXT("user-agent: DrydockBot/2.1")}, ROBOTS_ANSWERED, ROBOTS_KIND_AGENT_READABLE, 12, 14},
+    {{TEXT("user-agent: bot\0")}, ROBOTS_ANSWERED, ROBOTS_KIND_AGENT_READABLE, 12, 4},
+    {{TEXT("user-agent: 2bot")}, ROBOTS_ANSWERED, ROBOTS_KIND_AGENT_UNREADABLE, 12, 4},
+    {{TEXT("user-agent: */2")}, ROBOTS_ANSWERED, ROBOTS_KIND_AGENT_UNREADABLE, 12, 3},
     {{TEXT("user-agent:")}, ROBOTS_ANSWERED, ROBOTS_KIND_AGENT_UNREADABLE, 0, 0},
     /* "no octet under 0x21; 0x7F is accepted; surrogates and overlong forms aren't" */
     {{TEXT("allow: /a b")}, ROBOTS_ANSWERED, ROBOTS_KIND_ALLOW_UNREADABLE, 7, 4},

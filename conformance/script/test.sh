@@ -220,9 +220,12 @@ printf '\n\nuser-agent: a\ndisallow: /\n\n' >"$room/blank"
 answers 'a file that begins with blank lines' 1 'disallow line 4 unread 0 compared 1' "$ask" a /x "$room/blank"
 printf '\357\273\277user-agent: a\ndisallow: /\n' >"$room/marked"
 answers 'a file that begins with a mark' 1 'disallow line 2 unread 0 compared 1' "$ask" a /x "$room/marked"
-# a name that ends in NUL is unreadable, and names nobody
-printf 'user-agent: a\0\ndisallow: /\n' >"$room/nul"
-answers 'a file with NUL' 0 'allow line 0 unread 1 compared 0' "$ask" a /x "$room/nul"
+# NUL behind a name is ignored; in front of it the line is unread, and names nobody
+printf 'user-agent: a\0\nuser-agent: \0b\ndisallow: /\n' >"$room/nul"
+answers 'a file with NUL' 1 'disallow line 3 unread 1 compared 1' "$ask" a /x "$room/nul"
+answers 'a file with NUL in front of a name' 0 'allow line 0 unread 1 compared 0' "$ask" b /x "$room/nul"
+printf 'user-agent: DrydockBot/2.1\ndisallow: /\n' >"$room/version"
+answers 'a file with a version behind the name' 1 'disallow line 2 unread 0 compared 1' "$ask" drydockbot /x "$room/version"
 cp "$room/closed" "$room/-f x"
 answers 'a file whose name begins with - and has a space' 1 'disallow line 2 unread 0 compared 1' inside "$room" "$ask" a /x '-f x'
 answers 'no file at all on standard input' 0 "$nothing" "$ask" a /x </dev/null

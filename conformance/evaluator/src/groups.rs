@@ -1,6 +1,6 @@
 //! From lines to groups, and the rules that apply to a crawler.
 
-use crate::lines::{Kind, Line, LineNumber, PatternState, Side, Span};
+use crate::lines::{agent_name, Kind, Line, LineNumber, PatternState, Side, Span};
 
 /// A rule of a group, of any readability.
 #[derive(Debug, Clone, Copy)]
@@ -11,19 +11,17 @@ pub(crate) struct Rule {
     pub(crate) pattern: Span,
 }
 
-/// A group, with the values of its readable agent lines.
+/// A group, with the names of its readable agent lines.
 #[derive(Debug, Default)]
 struct Group<'a> {
-    agents: Vec<&'a [u8]>,
+    names: Vec<&'a [u8]>,
     rules: Vec<Rule>,
 }
 
 impl Group<'_> {
     /// "names are equal, ignoring ASCII case, or they are different"
     fn names(&self, name: &[u8]) -> bool {
-        self.agents
-            .iter()
-            .any(|agent| agent.eq_ignore_ascii_case(name))
+        self.names.iter().any(|one| one.eq_ignore_ascii_case(name))
     }
 }
 
@@ -56,7 +54,7 @@ fn groups<'a>(file: &'a [u8], lines: &[Line]) -> Vec<Group<'a>> {
                     groups.push(Group::default());
                 }
                 if let (true, Some(group)) = (readable, groups.last_mut()) {
-                    group.agents.push(value.of(file));
+                    group.names.push(agent_name(value.of(file)));
                 }
             }
             Kind::Rule {

@@ -208,7 +208,7 @@ pub(crate) fn kind(line: &[u8]) -> Kind {
     let field = line[field_start..field_end].to_ascii_lowercase();
     match field.as_slice() {
         b"user-agent" => Kind::Agent {
-            readable: is_agent(value.of(line)),
+            readable: !agent_name(value.of(line)).is_empty(),
             value,
         },
         b"allow" => rule(Side::Allow, line, value),
@@ -229,9 +229,16 @@ fn trimmed(line: &[u8], mut start: usize, mut end: usize) -> (usize, usize) {
     (start, end)
 }
 
-/// "readable if its value is "*" or one or more octets of A-Z a-z - _".
-fn is_agent(value: &[u8]) -> bool {
-    value == b"*" || (!value.is_empty() && value.iter().all(|o| is_name_octet(*o)))
+/// Whom an agent's value names: "The value's name is now its longest beginning
+/// of A-Z a-z - _ ; the rest is ignored. It is unread exactly if that beginning
+/// is empty and the value isn't exactly "*"" (document 02, M-105). Empty if
+/// unread.
+pub(crate) fn agent_name(value: &[u8]) -> &[u8] {
+    if value == b"*" {
+        return value;
+    }
+    let end = value.iter().position(|o| !is_name_octet(*o));
+    &value[..end.unwrap_or(value.len())]
 }
 
 fn rule(side: Side, line: &[u8], pattern: Span) -> Kind {

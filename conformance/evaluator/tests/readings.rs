@@ -44,7 +44,7 @@ type KindCase = (&'static [u8], (usize, usize, usize));
 
 #[test]
 fn kinds_of_lines() {
-    let cases: [KindCase; 42] = [
+    let cases: [KindCase; 37] = [
         (b"", (1, 0, 0)),
         (b" \t ", (1, 0, 0)),
         (b"# user-agent: a", (1, 0, 0)),
@@ -66,11 +66,6 @@ fn kinds_of_lines() {
         (b"\tuser-agent \t: \ta_B-c \t#x", (4, 16, 5)),
         (b"user-agent:", (5, 0, 0)),
         (b"user-agent:  # a", (5, 0, 0)),
-        (b"user-agent: a b", (5, 12, 3)),
-        (b"user-agent: **", (5, 12, 2)),
-        (b"user-agent: a/1.0", (5, 12, 5)),
-        (b"user-agent: a:b", (5, 12, 3)),
-        (b"user-agent: bot9", (5, 12, 4)),
         (b"allow:", (6, 0, 0)),
         (b"allow: \t#/", (6, 0, 0)),
         (b"allow:/", (7, 6, 1)),
@@ -87,6 +82,51 @@ fn kinds_of_lines() {
         (b"disallow:/\xED\xA0\x80", (11, 9, 4)),
         (b"disallow:/\xC0\xAF", (11, 9, 3)),
         (b"disallow:/\x00", (11, 9, 2)),
+    ];
+    for (line, expected) in cases {
+        assert_eq!(kind(line), expected, "{}", String::from_utf8_lossy(line));
+    }
+}
+
+/// "unread exactly if that beginning is empty and the value isn't exactly "*"",
+/// and "places and lengths stay the whole value's" (document 02, M-105).
+#[test]
+fn kinds_of_agent_lines() {
+    let cases: [KindCase; 34] = [
+        (b"user-agent: DrydockBot/2.1", (4, 12, 14)),
+        (b"user-agent: Bot 2.1", (4, 12, 7)),
+        (b"user-agent: Googlebot*", (4, 12, 10)),
+        (b"user-agent: a b", (4, 12, 3)),
+        (b"user-agent: a\tb", (4, 12, 3)),
+        (b"user-agent: a/1.0", (4, 12, 5)),
+        (b"user-agent: a:b", (4, 12, 3)),
+        (b"user-agent: bot9", (4, 12, 4)),
+        (b"user-agent: bot**", (4, 12, 5)),
+        (b"user-agent: -/", (4, 12, 2)),
+        (b"user-agent:_.", (4, 11, 2)),
+        (b"user-agent: Z\x00", (4, 12, 2)),
+        (b"user-agent: a\x7F", (4, 12, 2)),
+        (b"user-agent: a\xC3\xA9", (4, 12, 3)),
+        (b"user-agent: a\xFF\x80", (4, 12, 3)),
+        (b"user-agent:\ta/2.1 (x) \t# y", (4, 12, 9)),
+        (b"user-agent: a/#2.1", (4, 12, 2)),
+        (b"user-agent: * # x", (4, 12, 1)),
+        (b"user-agent: **", (5, 12, 2)),
+        (b"user-agent: */2", (5, 12, 3)),
+        (b"user-agent: *bot", (5, 12, 4)),
+        (b"user-agent: * a", (5, 12, 3)),
+        (b"user-agent: *\x00", (5, 12, 2)),
+        (b"user-agent: 2bot", (5, 12, 4)),
+        (b"user-agent: /bot", (5, 12, 4)),
+        (b"user-agent: .", (5, 12, 1)),
+        (b"user-agent: :bot", (5, 12, 4)),
+        (b"user-agent: @bot", (5, 12, 4)),
+        (b"user-agent: [bot", (5, 12, 4)),
+        (b"user-agent: `bot", (5, 12, 4)),
+        (b"user-agent: {bot", (5, 12, 4)),
+        (b"user-agent: \x00bot", (5, 12, 4)),
+        (b"user-agent: \xC3\xA9bot", (5, 12, 5)),
+        (b"user-agent: \xEF\xBB\xBFbot", (5, 12, 6)),
     ];
     for (line, expected) in cases {
         assert_eq!(kind(line), expected, "{}", String::from_utf8_lossy(line));
@@ -375,8 +415,11 @@ fn line_endings() {
     }
     // Other separators end no line.
     for no_ending in ["\x0B", "\x0C", "\u{85}", "\u{2028}"] {
-        let decision = decide(file(no_ending).as_bytes(), b"a", b"/");
-        assert_eq!((decision.line, decision.unread), (0, 1), "{no_ending:?}");
+        let text = file(no_ending);
+        // all of it is the value of an agent line, and names a
+        let whole = text.len() - "user-agent: ".len();
+        assert_eq!(kind(text.as_bytes()), (4, 12, whole), "{no_ending:?}");
+        assert_eq!(answer(text.as_bytes(), "a", "/"), (false, 0, 0, 0));
     }
 }
 
@@ -460,12 +503,130 @@ fn an_unreadable_rule_divides_groups() {
     }
 }
 
-/// The longest names that a file and a caller may hold.
+/// "The value's name is now its longest beginning of A-Z a-z - _ ; the rest is
+/// ignored" (document 02, M-105). Value, crawler's name, and whether they meet.
+#[test]
+fn names_with_something_behind_them() {
+    for (value, name, meets) in [
+        ("DrydockBot/2.1", "DrydockBot", true),
+        ("DrydockBot/2.1", "drydockbot", true),
+        ("drydockBOT/2.1", "DrydockBot", true),
+        ("DrydockBot/2.1", "Drydock", false),
+        ("DrydockBot/2.1", "DrydockBots", false),
+        ("DrydockBot/2.1", "DrydockBot-", false),
+        ("Drydock", "DrydockBot", false),
+        ("Drydock/2.1", "DrydockBot", false),
+        ("Drydock Bot", "DrydockBot", false),
+        ("Drydock Bot", "Drydock", true),
+        ("Drydock Bot", "Bot", false),
+        ("Bot 2.1", "bot", true),
+        ("Bot/Drydock", "Drydock", false),
+        ("Googlebot*", "Googlebot", true),
+        ("a9", "a", true),
+        ("a9b", "ab", false),
+        ("a-_/", "a-_", true),
+        ("a-/", "a", false),
+        ("a:b", "a", true),
+        ("a\u{0}", "a", true),
+        ("a\u{e9}", "a", true),
+        ("a/\u{1}\u{7f}", "a", true),
+        // case is ignored in letters only
+        ("-/", "_", false),
+    ] {
+        let file = format!("user-agent: {value}\ndisallow: /");
+        let expected = (meets, if meets { 2 } else { 0 }, 0, usize::from(meets));
+        assert_eq!(
+            answer(file.as_bytes(), name, "/"),
+            expected,
+            "{value:?} {name}"
+        );
+    }
+    for unread in [
+        "",
+        "*/2",
+        "**",
+        "*bot",
+        "* bot",
+        "2bot",
+        "/bot",
+        ".",
+        "\u{e9}bot",
+    ] {
+        let file = format!("user-agent: {unread}\ndisallow: /");
+        for name in ["bot", "a"] {
+            let expected = (false, 0, 1, 0);
+            assert_eq!(answer(file.as_bytes(), name, "/"), expected, "{unread:?}");
+        }
+    }
+}
+
+/// Each octet as the first, the middle and the last one of a value.
+#[test]
+fn each_octet_of_an_agents_value() {
+    let letters = b"ABCDEFGHIJKLMNOPQRSTUVWXYZabcdefghijklmnopqrstuvwxyz";
+    for octet in 0..=255u8 {
+        let is_closed = |value: &[u8], name: &[u8]| {
+            let file = [b"user-agent: ", value, b"\ndisallow: /"].concat();
+            decide(&file, name, b"/").line > 0
+        };
+        let of_name = letters.contains(&octet) || b"-_".contains(&octet);
+        let (first, middle, last) = ([octet, b'b'], [b'a', octet, b'b'], [b'a', octet]);
+        for value in [first.as_slice(), &middle, &last] {
+            assert_eq!(is_closed(value, value), of_name, "{octet:#X}");
+        }
+        assert_eq!(is_closed(&middle, b"a"), !of_name, "{octet:#X}");
+        assert_eq!(is_closed(&last, b"a"), !of_name, "{octet:#X}");
+        // spaces and tabs in front are dropped
+        assert_eq!(
+            is_closed(&first, b"b"),
+            b" \t".contains(&octet),
+            "{octet:#X}"
+        );
+    }
+}
+
+/// Groups read by those names.
+#[test]
+fn groups_named_with_something_behind_the_name() {
+    // The "*" groups no longer apply, wherever they stand.
+    let file = lines("user-agent: *|disallow: /|user-agent: a/2.1|allow: /x");
+    assert_eq!(answer(&file, "a", "/y"), (false, 0, 0, 2));
+    assert_eq!(answer(&file, "b", "/y"), (true, 2, 0, 1));
+    let file = lines("user-agent: A 2|allow: /x|user-agent: *|disallow: /");
+    assert_eq!(answer(&file, "a", "/y"), (false, 0, 0, 2));
+    // A group without rules too.
+    let file = lines("user-agent: *|disallow: /|user-agent: a/2.1");
+    assert_eq!(answer(&file, "a", "/y"), (false, 0, 0, 0));
+    // Two agent lines in one group, one with a version, in either order.
+    let file = lines("user-agent: a/1|user-agent: b|disallow: /");
+    assert_eq!(answer(&file, "a", "/y"), (true, 3, 0, 1));
+    assert_eq!(answer(&file, "b", "/y"), (true, 3, 0, 1));
+    let file = lines("user-agent: b|user-agent: a/1|disallow: /");
+    assert_eq!(answer(&file, "a", "/y"), (true, 3, 0, 1));
+    assert_eq!(answer(&file, "b", "/y"), (true, 3, 0, 1));
+    // One crawler in two versions is one, and the group applies once.
+    let file = lines("user-agent: a/1|user-agent: a/2|disallow: /");
+    assert_eq!(answer(&file, "a", "/y"), (true, 3, 0, 1));
+    // All groups that name it, with a version and without.
+    let file =
+        lines("user-agent: a|disallow: /|user-agent: A/2.1|allow: /y|user-agent: *|allow: /yz");
+    assert_eq!(answer(&file, "a", "/yz"), (false, 4, 0, 1 + 2));
+    // "*" with something behind it isn't everyone.
+    let file = lines("user-agent: */2|disallow: /|user-agent: *|allow: /x");
+    assert_eq!(answer(&file, "a", "/y"), (false, 0, 1, 2));
+}
+
+/// The longest names that a file and a caller may hold. A longer one in a file
+/// is readable, isn't cut, and meets nobody.
 #[test]
 fn long_names() {
     let name = "x".repeat(64);
-    let file = format!("user-agent: {}\ndisallow: /", name.to_uppercase());
-    assert_eq!(answer(file.as_bytes(), &name, "/"), (true, 2, 0, 1));
-    let file = format!("user-agent: {name}x\ndisallow: /");
-    assert_eq!(answer(file.as_bytes(), &name, "/"), (false, 0, 0, 0));
+    for behind in ["", "/2.1", " 2", "*"] {
+        let file = format!("user-agent: {}{behind}\ndisallow: /", name.to_uppercase());
+        assert_eq!(answer(file.as_bytes(), &name, "/"), (true, 2, 0, 1));
+        for more in ["x", "xx", "-"] {
+            let file = format!("user-agent: {name}{more}{behind}\ndisallow: /");
+            assert_eq!(answer(file.as_bytes(), &name, "/"), (false, 0, 0, 0));
+        }
+    }
 }

@@ -89,6 +89,12 @@ fn decide_name() {
             assert_eq!(decide(b"", &name, b"/"), expected, "{name:?}");
         }
     }
+    // what may stand behind a name in a file may not in the crawler's own
+    for value in ["a/2.1", "a 2.1", "a*"] {
+        let file = format!("user-agent: {value}\ndisallow: /");
+        let answer = decide(file.as_bytes(), value.as_bytes(), b"/");
+        assert_eq!(answer, refused_decision(2), "{value}");
+    }
 }
 
 #[test]

@@ -9,12 +9,12 @@ const FILES: [&str; 2] = ["Examples.antt", "OwnExamples.antt"];
 
 /// The sorts of rows that are questions, and how many there are of each.
 pub const SORTS: [(&str, usize); 8] = [
-    ("row", 66),
+    ("row", 87),
     ("rowIn", 15),
     ("sizes", 4),
     ("run", 6),
     ("located", 5),
-    ("lineRow", 53),
+    ("lineRow", 60),
     ("matchRow", 26),
     ("normalRow", 12),
 ];

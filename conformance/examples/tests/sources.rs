@@ -8,7 +8,7 @@ use examples::{Example, Expected, Normalised, Question};
 /// How many rows each data file has.
 const COUNTS: [(&str, usize); 4] = [
     ("000-002.txt", 84),
-    ("001.txt", 123),
+    ("001.txt", 125),
     ("003.txt", 49),
     ("004.txt", 36),
 ];

@@ -1,5 +1,6 @@
 //! Files whose patterns are made from the path.
 
+use crate::agents::{behind_name, unreadable_agent};
 use crate::derived::{damage, stretches};
 use crate::files::{comment, field_line, ENDINGS};
 use crate::patterns::{damaged_path, path, theme};
@@ -36,7 +37,7 @@ pub(crate) fn long_decide_case(random: &mut Random) -> DecideCase {
         0 => b"#".to_vec(),
         1 => b"\n".to_vec(),
         2 => b" # user-agent: *\r\n".to_vec(),
-        3 => b"user-agent: -\n".to_vec(),
+        3 => b"user-agent: -\nuser-agent: _/2.1\n".to_vec(),
         4 => b"x: /\ndisallow: x\r".to_vec(),
         5 => b"allow: *\ndisallow: *a\n".to_vec(),
         _ => [case.file.as_slice(), b"\n"].concat(),
@@ -87,10 +88,12 @@ fn file(random: &mut Random, name: &[u8], path: &[u8]) -> Vec<u8> {
 
 fn agent(random: &mut Random, name: &[u8]) -> Vec<u8> {
     match random.below(20) {
-        0..=7 => other_case(random, name),
+        0..=5 => other_case(random, name),
+        6 | 7 => [other_case(random, name), behind_name(random)].concat(),
         8..=12 => b"*".to_vec(),
-        13..=16 => good_name(random),
-        17 => [name, b"/1"].concat(),
+        13..=15 => good_name(random),
+        16 => [good_name(random), behind_name(random)].concat(),
+        17 => unreadable_agent(random, name),
         18 => name[..name.len() / 2].to_vec(),
         _ => Vec::new(),
     }

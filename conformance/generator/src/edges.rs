@@ -12,6 +12,58 @@ const STAR_FIRST: [&[u8]; 18] = [
     b"$*", b"$/", b"*#", b"* a", b"*\xC3",
 ];
 
+/// Values of agent lines: names with something behind them, "*", and what names
+/// nobody.
+const AGENTS: [&[u8]; 22] = [
+    b"DrydockBot/2.1",
+    b"DrydockBot",
+    b"Drydock",
+    b"Drydock Bot",
+    b"Bot 2.1",
+    b"Googlebot*",
+    b"bot9",
+    b"bot\0",
+    b"bot\t*",
+    b"bot\xC3\xA9",
+    b"bot:",
+    b"-/",
+    b"_*",
+    b"*",
+    b"*/2",
+    b"**",
+    b"*bot",
+    b"* bot",
+    b"2bot",
+    b"/bot",
+    b"\xEF\xBB\xBFbot",
+    b"",
+];
+
+/// Crawlers that some of these values name, and neighbours of theirs.
+const CRAWLERS: [&[u8]; 9] = [
+    b"drydockbot",
+    b"DRYDOCK",
+    b"DrydockBots",
+    b"Bot",
+    b"bo",
+    b"googlebot",
+    b"-",
+    b"_",
+    b"bot/2",
+];
+
+/// The values, and names about as long as a crawler's may be, alone and with
+/// something behind them.
+fn agents() -> Vec<Vec<u8>> {
+    let mut agents: Vec<Vec<u8>> = AGENTS.map(<[u8]>::to_vec).to_vec();
+    for length in MOST_NAME - 1..=MOST_NAME + 2 {
+        for behind in [b"".as_slice(), b"/2.1", b" b", b"*"] {
+            agents.push([&vec![b'A'; length], behind].concat());
+        }
+    }
+    agents
+}
+
 /// The beginning, lengthened with the block to exactly `length` octets.
 fn filled(beginning: &[u8], block: &[u8], length: usize) -> Vec<u8> {
     let mut text = beginning.to_vec();
@@ -74,6 +126,7 @@ fn long_files() -> Vec<Vec<u8>> {
         (b"", b"\n\r"),
         (b"", b"user-agent:a\nallow:x\n"),
         (b"user-agent:a\nallow:/", b"a"),
+        (b"", b"user-agent:a/2.1\nuser-agent:*a\n"),
         (b"user-agent:a\ndisallow:/", b"%"),
         (b"user-agent:a\nallow:", b"*"),
         (head, b"allow:*\rdisallow:*a$\n"),
@@ -110,6 +163,15 @@ pub fn decide_edges() -> Vec<DecideCase> {
             add(&[rules, pattern].concat(), b"a", &path);
         }
     }
+    for agent in agents() {
+        let groups = [b"user-agent: *\nallow: /\nuser-agent: ", agent.as_slice()].concat();
+        for rules in ["", "\ndisallow: /a", "\nuser-agent: b\ndisallow: /a"] {
+            let file = [groups.as_slice(), rules.as_bytes()].concat();
+            for name in CRAWLERS.map(<[u8]>::to_vec).into_iter().chain(names()) {
+                add(&file, &name, b"/a");
+            }
+        }
+    }
     let long = vec![b'#'; MOST_OCTETS + 1];
     for (name, path) in [("", ""), ("a", ""), ("a", "#"), ("9", "/#"), ("a", "/")] {
         add(&long, name.as_bytes(), path.as_bytes());
@@ -133,6 +195,7 @@ fn decide_octet(octet: u8) -> Vec<DecideCase> {
     }
     let agents = [line("user-agent: a"), b"disallow: /".to_vec()].concat();
     cases.push(decide_case(&agents, &[b'a', octet], b"/x"));
+    cases.push(decide_case(&agents, b"a", b"/x"));
     cases.push(decide_case(&agents, b"a", &[octet]));
     cases.push(decide_case(&[&[octet], FILE].concat(), &[octet], b"/a"));
     cases
@@ -219,8 +282,10 @@ pub fn normalise_edges() -> Vec<NormaliseCase> {
 
 /// Written-down questions for the kind of a line.
 pub fn line_edges() -> Vec<LineCase> {
-    let fields: [&[u8]; 11] = [
+    let fields: [&[u8]; 13] = [
         b"user-agent:",
+        b"user-agent:a",
+        b"User-Agent :*",
         b"allow:",
         b"disallow:",
         b"Allow :/",
@@ -236,6 +301,10 @@ pub fn line_edges() -> Vec<LineCase> {
     for pattern in STAR_FIRST {
         lines.push([b"allow:", pattern].concat());
         lines.push([b" Disallow : ", pattern, b" #"].concat());
+    }
+    for agent in agents() {
+        lines.push([b"user-agent:", agent.as_slice()].concat());
+        lines.push([b" User-Agent : ", agent.as_slice(), b" #"].concat());
     }
     for field in fields {
         lines.push(field.to_vec());

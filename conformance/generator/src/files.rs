@@ -1,5 +1,6 @@
 //! Rules files and their lines.
 
+use crate::agents::{behind_name, unreadable_agent};
 use crate::patterns::{pattern, theme};
 use crate::random::Random;
 use crate::text::{any_octets, good_name, ill_formed, other_case, spaces, well_formed, MARK};
@@ -87,18 +88,17 @@ impl Setting {
         }
         let everyone: &[u8] = if self.names_everyone { b"*" } else { b"nobody" };
         match random.below(100) {
-            0..=41 => own,
-            42..=69 => everyone.to_vec(),
-            70..=76 => good_name(random),
-            77..=81 => Vec::new(),
-            82..=84 => own[..own.len() / 2].to_vec(),
-            85..=87 => [own.as_slice(), random.pick(&[b"x", b"-", b"_", b"a"])].concat(),
-            88..=92 => {
-                let end: &[u8] = random.pick(&[b"/1.0", b" b", b"9", b"*", b":", b"\t-", b"\0"]);
-                [own.as_slice(), end].concat()
-            }
-            93..=94 => b"**".to_vec(),
-            95..=96 => [own.as_slice(), &[random.octet()]].concat(),
+            0..=27 => own,
+            28..=41 => [own, behind_name(random)].concat(),
+            42..=67 => everyone.to_vec(),
+            68..=71 => good_name(random),
+            72..=74 => [good_name(random), behind_name(random)].concat(),
+            75..=79 => Vec::new(),
+            80..=82 => own[..own.len() / 2].to_vec(),
+            83..=85 => [own.as_slice(), random.pick(&[b"x", b"-", b"_", b"a"])].concat(),
+            86..=92 => unreadable_agent(random, &own),
+            93..=94 => [own.as_slice(), &[random.octet()]].concat(),
+            95..=96 => [&[random.octet()], own.as_slice()].concat(),
             97 => well_formed(random).to_vec(),
             _ => any_octets(random, 6),
         }

@@ -9,10 +9,11 @@
 //!   `i` depends on the seed and on `i` only; the same seed gives the same
 //!   cases everywhere.
 //!
-//! A case holds a question and no answer. `strings`, `after_slash` and
-//! `after_slash_or_star` give all texts up to a length, and `normal_length` the
-//! length of a normalised path.
+//! A case holds a question and no answer. `agent_values` gives generated values
+//! of agent lines, `strings`, `after_slash` and `after_slash_or_star` all texts
+//! up to a length, and `normal_length` the length of a normalised path.
 
+mod agents;
 mod derived;
 mod derived_files;
 mod edges;
@@ -26,6 +27,7 @@ pub use edges::{decide_edges, line_edges, match_edges, normalise_edges, program_
 pub use patterns::normal_length;
 pub use small::{after_slash, after_slash_or_star, strings};
 
+use agents::agent_value;
 use derived::derived_case;
 use derived_files::{derived_decide_case, long_decide_case};
 use files::Setting;
@@ -78,6 +80,7 @@ const PROGRAM: u64 = 5;
 const DERIVED: u64 = 6;
 const DERIVED_DECIDE: u64 = 7;
 const LONG_DECIDE: u64 = 8;
+const AGENT: u64 = 9;
 
 /// Draws `count` cases of one sort.
 fn drawn<T>(
@@ -126,6 +129,13 @@ pub fn normalise_cases(seed: u64, count: usize) -> impl Iterator<Item = Normalis
 /// Generated questions for the kind of a line.
 pub fn line_cases(seed: u64, count: usize) -> impl Iterator<Item = LineCase> {
     drawn(seed, LINE, count, line_case)
+}
+
+/// Generated values of agent lines, as they stand behind the colon: names of
+/// all lengths, versions and other text behind them, "*" and what begins with
+/// it, and every octet in every place.
+pub fn agent_values(seed: u64, count: usize) -> impl Iterator<Item = Vec<u8>> {
+    drawn(seed, AGENT, count, agent_value)
 }
 
 /// Generated inputs for the program.

@@ -8,7 +8,7 @@ use evaluator::{Decision, Matched};
 use generator::{DecideCase, MatchCase, SEED};
 
 mod support;
-use support::{sides_changed, told, Told, MARK};
+use support::{name_of, sides_changed, told, Told, MARK};
 
 const DECIDE_CASES: usize = 60_000;
 const MATCH_CASES: usize = 60_000;
@@ -243,6 +243,19 @@ const GROUP_ROWS: [&str; 13] = [
     "an unreadable agent line joins a group",
 ];
 
+/// How often what is behind a name, or belongs to it, has to occur.
+const NAME_ROWS: [(&str, usize); 3] = [
+    ("something behind the name", 8_000),
+    ("always something behind the name", 4_000),
+    ("a longer name", 800),
+];
+
+/// The line's name begins with this one and is longer.
+fn begins_with(line: &Told, name: &[u8]) -> bool {
+    let front = line.name().get(..name.len());
+    line.name().len() > name.len() && front.is_some_and(|front| front.eq_ignore_ascii_case(name))
+}
+
 /// Groups as lists of agent lines and rule lines.
 fn groups(lines: &[Told]) -> Vec<(Vec<&Told>, Vec<&Told>)> {
     let mut groups: Vec<(Vec<&Told>, Vec<&Told>)> = Vec::new();
@@ -281,8 +294,21 @@ fn count_groups(table: &mut Table, case: &DecideCase, lines: &[Told]) {
     table.add_if(
         lines
             .iter()
-            .any(|line| line.names(&case.name) && line.value != case.name),
+            .any(|line| line.names(&case.name) && line.name() != case.name),
         "the name in another letter case",
+    );
+    let with_more = |line: &Told| line.names_and_more(&case.name);
+    table.add_if(lines.iter().any(with_more), "something behind the name");
+    table.add_if(
+        named > 0
+            && !lines
+                .iter()
+                .any(|line| line.value.eq_ignore_ascii_case(&case.name)),
+        "always something behind the name",
+    );
+    table.add_if(
+        named == 0 && lines.iter().any(|line| begins_with(line, &case.name)),
+        "a longer name",
     );
     let first_rule = lines.iter().position(Told::is_rule);
     let first_agent = lines.iter().position(Told::is_agent);
@@ -372,6 +398,7 @@ fn deciding() {
         ])
         .expect(FILE_ROWS)
         .expect(GROUP_ROWS)
+        .expect_least(NAME_ROWS)
         .expect(names_of(&ESCAPES))
         .expect(names_of(&CHARACTERS));
     let mut files = Octets::of("files");
@@ -590,6 +617,29 @@ const KINDS: [&str; 12] = [
     "kind 11 disallow unreadable",
 ];
 
+/// What agents' values are like, and how often they have to be.
+const AGENT_ROWS: [(&str, usize); 6] = [
+    ("an agent that is a name alone", 2_000),
+    ("an agent with something behind its name", 1_000),
+    ("an agent with a version behind its name", 150),
+    ("an agent with ill-formed octets behind its name", 200),
+    ("an unreadable agent that begins with \"*\"", 400),
+    ("an unreadable agent that begins with another octet", 400),
+];
+
+fn count_agent(table: &mut Table, readable: bool, value: &[u8]) {
+    let [alone, more, version, ill_formed, star, other] = AGENT_ROWS.map(|(row, _)| row);
+    let behind = &value[name_of(value).len()..];
+    if readable && value != b"*" {
+        table.add(if behind.is_empty() { alone } else { more });
+        let digit = behind.get(1).is_some_and(u8::is_ascii_digit);
+        table.add_if(behind.starts_with(b"/") && digit, version);
+        table.add_if(std::str::from_utf8(behind).is_err(), ill_formed);
+    } else if !readable && !value.is_empty() {
+        table.add(if value.starts_with(b"*") { star } else { other });
+    }
+}
+
 #[test]
 fn kinds_of_lines() {
     let mut table = Table::new("line")
@@ -597,6 +647,7 @@ fn kinds_of_lines() {
         .expect(KINDS)
         .expect_least(first_rows(2))
         .expect(["a comment", "a mark in front", "an agent \"*\""])
+        .expect_least(AGENT_ROWS)
         .expect(names_of(&CHARACTERS));
     let mut lines = Octets::of("lines");
     let cases = generator::line_edges()
@@ -613,6 +664,9 @@ fn kinds_of_lines() {
         table.add_if(line.starts_with(MARK), "a mark in front");
         let value = &line[answer.place..answer.place + answer.length];
         table.add_if(answer.kind == 4 && value == b"*", "an agent \"*\"");
+        if [4, 5].contains(&answer.kind) {
+            count_agent(&mut table, answer.kind == 4, value);
+        }
         if answer.kind >= 6 {
             count_first(&mut table, [7, 10].contains(&answer.kind), value);
         }

@@ -107,8 +107,8 @@ fn other_rows() -> impl Iterator<Item = String> {
 }
 
 /// Every octet as a name, as the last octet of a path, a pattern, a rule's
-/// pattern and an agent's value, as the first of a pattern and a rule's
-/// pattern, and behind a star.
+/// pattern and an agent's value, as the first of a pattern, a rule's pattern and
+/// an agent's value, and behind a star.
 fn octet_rows() -> impl Iterator<Item = String> {
     (0..=u8::MAX).flat_map(|octet| {
         let after = |front: &[u8]| [front, &[octet]].concat();
@@ -142,6 +142,12 @@ fn octet_rows() -> impl Iterator<Item = String> {
             }),
             told(&LineCase {
                 line: after(b"user-agent:"),
+            }),
+            told(&LineCase {
+                line: after(b"user-agent:a"),
+            }),
+            told(&LineCase {
+                line: after(b"user-agent:*"),
             }),
         ]
     })

@@ -4,7 +4,7 @@ use evaluator::{decide, line_kind, match_pattern, normalise, program, Decision};
 use generator::{DecideCase, SEED};
 
 mod support;
-use support::{sides_changed, told, Told};
+use support::{sides_changed, told, Told, MARK};
 
 const CASES: usize = 20_000;
 
@@ -141,8 +141,9 @@ fn derived_files_have_several_matches() {
         "the heaviest on one side are equal",
         "several groups name the crawler",
         "a rule that begins with a star decides",
+        "something stands behind the crawler's name",
     ];
-    let mut counts = [0; 7];
+    let mut counts = [0; 8];
     let mut cases = 0;
     for (case, decision) in unrefused(generator::derived_decide_cases(SEED, CASES)) {
         cases += 1;
@@ -166,12 +167,17 @@ fn derived_files_have_several_matches() {
             equal(&allow) || equal(&disallow),
             groups_naming(&lines, &case.name) > 1,
             decision.line > 0 && lines[decision.line - 1].value.starts_with(b"*"),
+            lines.iter().any(|line| line.names_and_more(&case.name)),
         ];
         for (count, occurs) in counts.iter_mut().zip(occurs) {
             *count += usize::from(occurs);
         }
     }
-    for ((row, count), least) in rows.iter().zip(counts).zip([60, 40, 30, 10, 15, 30, 10]) {
+    for ((row, count), least) in rows
+        .iter()
+        .zip(counts)
+        .zip([60, 40, 30, 10, 15, 30, 10, 20])
+    {
         println!("{count:>8} of {cases}  {row}");
         assert!(100 * count > least * cases, "{row}: {count} of {cases}");
     }
@@ -368,6 +374,53 @@ fn a_star_in_front() {
         }
     }
     assert!(mended > CASES / 100, "{mended}");
+}
+
+/// The file with something more behind the agents that are chosen, line by line.
+fn lengthened(lines: &[Told], is_chosen: impl Fn(&Told) -> bool) -> Vec<u8> {
+    let mut file = MARK.to_vec();
+    for line in lines {
+        if is_chosen(line) {
+            file.extend([b"user-agent:", line.value.as_slice(), b"/2.1 x"].concat());
+        } else {
+            file.extend(&line.line);
+        }
+        file.push(b'\n');
+    }
+    file
+}
+
+/// What stands behind a name changes nothing; behind "*" it makes the line
+/// unread, and then it names nobody.
+#[test]
+fn something_behind_the_agents() {
+    let (mut by_name, mut by_star) = (0, 0);
+    for (case, decision) in answered() {
+        let lines = told(&case.file);
+        let asked = |file: Vec<u8>| {
+            let decision = decide(&file, &case.name, &case.path);
+            (decision.unread, (decision.line, decision.compared))
+        };
+        let before = (decision.unread, (decision.line, decision.compared));
+        let is_star = |line: &Told| line.names(b"*");
+        let named = lengthened(&lines, |line| line.kind == 4 && !is_star(line));
+        assert_eq!(asked(named), before, "{case:?}");
+        let (unread, rest) = asked(lengthened(&lines, is_star));
+        let stars = lines.iter().filter(|line| is_star(line)).count();
+        assert_eq!(unread, decision.unread + stars, "{case:?}");
+        if groups_naming(&lines, &case.name) > 0 {
+            assert_eq!(rest, before.1, "{case:?}");
+            by_name += usize::from(decision.line > 0);
+        } else {
+            assert_eq!(rest, (0, 0), "{case:?}");
+            by_star += usize::from(decision.line > 0);
+        }
+    }
+    println!("{by_name} decided in a named group and {by_star} in one of \"*\"");
+    assert!(
+        by_name > CASES / 4 && by_star > CASES / 20,
+        "{by_name}, {by_star}"
+    );
 }
 
 /// A line's value has no spaces at its ends, and nothing of it is comment.

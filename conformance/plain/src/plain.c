@@ -322,24 +322,30 @@ static bool same_name(struct text one, struct text other)
     return true;
 }
 
-/* Reads an agent line from behind its colon; gives the place where that ended. */
+/*
+ * Reads an agent line from behind its colon; gives the place where that ended.
+ * What stands behind a name is ignored, and behind "*" nothing may stand.
+ */
 static const uint8_t *agent_line(struct state *state, const uint8_t *at, const uint8_t *end)
 {
     const uint8_t *start = skip_blanks(at, end);
-    bool is_star = start < end && *start == '*';
-    at = start + is_star;
-    while (!is_star && at < end && sorts[*at] & NAME)
+    at = start;
+    while (at < end && sorts[*at] & NAME)
         at++;
-    struct text value = {start, (size_t)(at - start)};
-    at = skip_blanks(at, end);
+    struct text name = {start, (size_t)(at - start)};
     if (state->after_rule)
         state->after_rule = state->names_crawler = state->names_everyone = false;
-    if (value.length == 0 || !value_ends(at, end))
-        state->unread++;
-    else if (is_star)
+    if (name.length != 0) {
+        if (same_name(name, state->name))
+            state->names_crawler = state->crawler_named = true;
+        return at;
+    }
+    bool is_star = at < end && *at == '*';
+    at = skip_blanks(at + is_star, end);
+    if (is_star && value_ends(at, end))
         state->names_everyone = true;
-    else if (same_name(value, state->name))
-        state->names_crawler = state->crawler_named = true;
+    else
+        state->unread++;
     return at;
 }
 

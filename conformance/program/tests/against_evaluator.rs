@@ -127,6 +127,33 @@ fn patterns_that_begin_with_a_star() {
     }
 }
 
+/// "The value's name is now its longest beginning of A-Z a-z - _ ; the rest is
+/// ignored." (M-105) The first line of the input isn't such a value.
+#[test]
+fn names_with_a_version_behind_them() {
+    for (input, line) in [
+        (
+            "drydockbot\n/x\nuser-agent: DrydockBot/2.1\ndisallow: /",
+            "disallow line 2 unread 0 compared 1",
+        ),
+        (
+            "Drydock\n/x\nuser-agent: DrydockBot/2.1\ndisallow: /",
+            "allow line 0 unread 0 compared 0",
+        ),
+        (
+            "a\n/x\nuser-agent: *\ndisallow: /\nuser-agent: a 2\nallow: /y",
+            "allow line 0 unread 0 compared 2",
+        ),
+        (
+            "a\n/x\nuser-agent: */2\nuser-agent: 2a\ndisallow: /",
+            "allow line 0 unread 2 compared 0",
+        ),
+        ("a/2.1\n/x\nuser-agent: a/2.1\ndisallow: /", "refused 2"),
+    ] {
+        check_line(input.as_bytes(), line);
+    }
+}
+
 /// Only LF ends a name and a path; a CR is an octet of theirs.
 #[test]
 fn carriage_returns() {
@@ -232,7 +259,7 @@ fn every_row_of_the_definitions() {
             _ => {}
         }
     }
-    assert_eq!((runs, decisions), (6, 90), "runs and decisions");
+    assert_eq!((runs, decisions), (6, 111), "runs and decisions");
 }
 
 /// The examples of the sources, with the answers that are written beside them.

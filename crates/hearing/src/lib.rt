@@ -27,29 +27,19 @@ pub fn nothing_heard() -> Hearing
     }
 }
 
-// An agent's value names a crawler, or "*".
-fn names(value: &[u8], who: &[u8]) -> bool
-    ensures { λ r. ⌜ r ≡ names (now (value .entry)) (now (who .entry)) ⌝ }
-{
-    if text::same::same_ignoring_case(value, who) {
-        return readable::readable_agent(value);
-    }
-    false
-}
-
 // An agent's value names "*".
 fn names_everyone(value: &[u8]) -> bool
     ensures { λ r. ⌜ r ≡ names (now (value .entry)) everyone ⌝ }
 {
     let everyone = [b'*'];
-    names(value, &everyone)
+    readable::names(value, &everyone)
 }
 
 // Whom an agent's value names: the crawler, "*", or neither.
 pub fn addressed(name: &[u8], value: &[u8]) -> Audience
     ensures { λ r. ⌜ r ≡ addressed (now (name .entry)) (now (value .entry)) ⌝ }
 {
-    if names(value, name) {
+    if readable::names(value, name) {
         return Audience::Crawler;
     }
     if names_everyone(value) {
@@ -63,7 +53,7 @@ fn is_addressed(audience: Audience, name: &[u8], value: &[u8]) -> bool
     ensures { λ r. ⌜ r ≡ names (now (value .entry)) (whom audience (now (name .entry))) ⌝ }
 {
     match audience {
-        Audience::Crawler => names(value, name),
+        Audience::Crawler => readable::names(value, name),
         Audience::Everyone => names_everyone(value),
         Audience::Nobody => false,
     }

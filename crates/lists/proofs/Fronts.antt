@@ -1,15 +1,14 @@
 -- Laws on a list's front: all but its last element, stores from a place on, and the part before a test passes. Assumes nothing.
 use Prim.Native.Nat.{ℕ, suc, _+_, _-_, _≤_}
 use mathlib.Core.Path.{_≡_, refl, ap, _∙_}
-use mathlib.Core.Bool.{Bool, true, not}
+use mathlib.Core.Bool.{Bool, true, false, not}
 use mathlib.Core.List.{List, [], _∷_, _++_, dropLast}
 use native.Mathlib.Omega.{arith}
 use native.Mathlib.Numerals.{unary-clauses}
 use lib.ListN.{length, take, drop}
 use lib.Seq.{sets, sets-eq}
-use borrow.Author.Tests.{not-true}
 use Rattle.lists.specs.Lists.{all, upTo}
-use Rattle.lists.proofs.Bools.{and-left, and-right}
+use Rattle.lists.proofs.Bools.{split, and-left, and-right}
 use Rattle.lists.proofs.Parts.{upTo-on}
 
 module _ {A : Type 0} where
@@ -31,10 +30,24 @@ module _ {A : Type 0} where
       let e : 0 + length v ≡ length v = omega arith in
       sets-eq v l 0 (omega arith) ∙ rw e
 
-  -- elements that don't pass the test stand before the first that does
-  pub upTo-clear : (f : A → Bool) (a b : List A) → all (λ x. not (f x)) a ≡ true → upTo f (a ++ b) ≡ a ++ upTo f b
-  unfolding all
-  upTo-clear f [] b h = refl
-  upTo-clear f (x ∷ a) b h =
-      rw (upTo-on f x (a ++ b) (not-true (f x) (and-left (not (f x)) (all (λ y. not (f y)) a) h)))
-      (ap (λ (m : List A). x ∷ m) (upTo-clear f a b (and-right (not (f x)) (all (λ y. not (f y)) a) h)))
+  -- elements that pass a test f stand before the first that passes g, where none passes both
+  module _ (f g : A → Bool) (apart : (x : A) → f x ≡ true → g x ≡ false) where
+    pub upTo-clear : (a b : List A) → all f a ≡ true → upTo g (a ++ b) ≡ a ++ upTo g b
+    unfolding all
+    upTo-clear [] b h = refl
+    upTo-clear (x ∷ a) b h =
+        rw (upTo-on g x (a ++ b) (apart x (and-left (f x) (all f a) h)))
+        (ap (λ (m : List A). x ∷ m) (upTo-clear a b (and-right (f x) (all f a) h)))
+
+  -- the front of the elements that pass the test f
+  module _ (f : A → Bool) where
+    abbrev pub front : List A → List A
+    front l = upTo (λ x. not (f x)) l
+
+    pub front-passes : (l : List A) → all f (front l) ≡ true
+    unfolding all upTo
+    front-passes [] = refl
+    front-passes (x ∷ l) = split (f x) (λ e. rw e (rw e (front-passes l))) (λ e. rw e)
+
+    pub front-append : (a b : List A) → all f a ≡ true → front (a ++ b) ≡ a ++ front b
+    front-append a b h = upTo-clear f (λ x. not (f x)) (λ x e. ap not e) a b h

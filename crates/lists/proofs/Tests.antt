@@ -21,6 +21,10 @@ module _ {A : Type 0} where
   empty-some [] h = absurd (h refl)
   empty-some (x ∷ l) h = refl
 
+  pub empty-known : (l : List A) → empty l ≡ true → l ≡ []
+  empty-known [] e = refl
+  empty-known (x ∷ l) e = absurd (false≢true e)
+
 module _ {A : Type 0} (f : A → Bool) (l : List A) (i : ℕ) where
   pub all-end : length l ≤ i → all f (drop i l) ≡ true
   unfolding all

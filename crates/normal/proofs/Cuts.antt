@@ -91,7 +91,7 @@ unfolding firstRun
 first-run-more c l h =
     split (isStar c) (λ s. rw (star-kept c l s, upTo-stop isStar c (normal true 0 l) s, upTo-stop isStar c l s) nothing)
     (λ s.
-    rw (normal-cons true c l, upTo-clear isStar (replacement true c l) _ (replacement-clear c l s), h, upTo-on isStar c l s, normal-cons true c (upTo isStar l), cut-replacement c l, cut-rest c l))
+    rw (normal-cons true c l, upTo-clear (λ x. not (isStar x)) isStar (λ x. not-true (isStar x)) (replacement true c l) _ (replacement-clear c l s), h, upTo-on isStar c l s, normal-cons true c (upTo isStar l), cut-replacement c l, cut-rest c l))
 
 pub firstRun-normal : (raw : List ℕ) → firstRun (normal true 0 raw) ≡ normal true 0 (firstRun raw)
 unfolding firstRun normal upTo

@@ -14,22 +14,25 @@ use Rattle.protocol.specs.Readable.{everyone, names}
 use Rattle.protocol.specs.Entries.{Role, agent, rule, Entry}
 use Rattle.protocol.specs.declared.Rule.{Rule}
 use Rattle.protocol.specs.Rules.{valueOf, ruleOf, namedBy, entryNames, someGroupNames, groupNames, ruleIn, rulesIn, audience, groupFor, applying}
-use Rattle.protocol.specs.Meaning.{GroupNames, RuleFor}
+use Rattle.protocol.specs.Meaning.{Names, GroupNames, RuleFor}
+use Rattle.protocol.proofs.Agents.{names-exactly}
 
 -- an entry that names who
 module _ (file who : List ℕ) where
   naming-known : (ro : Role) (e : Entry) → namedBy file who ro e ≡ true
-      → (ro ≡ agent) × (e .group ≡ 0 → ⊥) × (names (valueOf file e) who ≡ true)
+      → (ro ≡ agent) × (e .group ≡ 0 → ⊥) × Names (valueOf file e) who
   unfolding namedBy
   naming-known agent e h =
       let some : not (eqb (e .group) 0) ≡ true = and-left (not (eqb (e .group) 0)) _ h in
-      (refl, eqb-false (e .group) 0 (not-true (eqb (e .group) 0) some), and-right (not (eqb (e .group) 0)) _ h)
+      let named : names (valueOf file e) who ≡ true = and-right (not (eqb (e .group) 0)) _ h in
+      (refl, eqb-false (e .group) 0 (not-true (eqb (e .group) 0) some), names-exactly (valueOf file e) who .0 named)
   naming-known (rule side) e h = absurd (false≢true h)
 
 module _ (file : List ℕ) (es : List Entry) (who : List ℕ) where
   known-naming : (g : ℕ) (n : GroupNames file es who g) → entryNames file who (n .entry) ≡ true
   unfolding namedBy
-  known-naming g n = rw (n .role, ne-eqb (n .entry .group) 0 (λ k. n .some (sym (n .group) ∙ k)), n .named)
+  known-naming g n =
+      rw (n .role, ne-eqb (n .entry .group) 0 (λ k. n .some (sym (n .group) ∙ k)), names-exactly (valueOf file (n .entry)) who .1 (n .named))
 
   -- A group names who exactly when it isn't 0 and one of its agent lines does.
   pub group-names : (g : ℕ) → (groupNames file es who g ≡ true) ↔ GroupNames file es who g

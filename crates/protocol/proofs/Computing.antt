@@ -3,7 +3,7 @@ use Rattle.lists.specs.Lists.{all, any, kept, upTo, from, total, numbersFrom, s
 use Rattle.protocol.specs.Octets.{upper, lower, digit, token, unreserved, hex, blank, lineEnd, lowerCase, upperCase, hexValue, hexDigit}
 use Rattle.protocol.specs.Text.{octets, begins, ends, sameIgnoringCase, lead, unlessAtEnd, trimEnd, trim, octetsAt}
 use Rattle.protocol.specs.Lines.{endingLength, lineLength, linesFrom, hasLeadingMark, linesOf}
-use Rattle.protocol.specs.Readable.{isName, readableAgent, names, characterForms, dueAfter, wellFormed, patternStart, readablePattern}
+use Rattle.protocol.specs.Readable.{nameFront, agentName, readableAgent, names, characterForms, dueAfter, wellFormed, patternStart, readablePattern}
 use Rattle.protocol.specs.Kinds.{agentAt, patternAt, fieldKind, recordKind, restKind, uncommented, kindOf}
 use Rattle.protocol.specs.Entries.{roleOf, groupAt, ruledAfter, placeInFile, entryOf, entriesFrom, entries}
 use Rattle.protocol.specs.Rules.{namedBy, someGroupNames, groupNames, ruleIn, rulesIn, audience, groupFor, applying, unreadable, unread}
@@ -21,7 +21,7 @@ unfolding all any kept upTo from total numbersFrom same upper lower digit token 
 texts = tt
 
 unfoldable pub lines : Unit {0}
-unfolding endingLength lineLength linesFrom hasLeadingMark linesOf isName readableAgent names characterForms dueAfter wellFormed patternStart readablePattern agentAt patternAt fieldKind recordKind restKind uncommented kindOf
+unfolding endingLength lineLength linesFrom hasLeadingMark linesOf nameFront agentName readableAgent names characterForms dueAfter wellFormed patternStart readablePattern agentAt patternAt fieldKind recordKind restKind uncommented kindOf
 lines = tt
 
 unfoldable pub groups : Unit {0}

@@ -17,6 +17,8 @@ pub mod NormaliseAnswer
 pub mod KindAnswer
 pub mod Refused
 pub mod Answered
+pub mod Texts
+pub mod Agents
 pub mod Applying
 pub mod Ascending
 pub mod Deciding

@@ -17,7 +17,7 @@ use Rattle.protocol.specs.declared.Kind.{Kind}
 use Rattle.protocol.specs.Octets.{is, blank}
 use Rattle.protocol.specs.Text.{octets, solid, lead, unlessAtEnd, trimEnd, trim, octetsAt}
 use Rattle.protocol.specs.Lines.{placeAt, placeAfter}
-use Rattle.protocol.specs.Readable.{isName, readableAgent, readablePattern}
+use Rattle.protocol.specs.Readable.{nameFront, agentName, readableAgent, readablePattern}
 use Rattle.protocol.specs.Kinds.{agentAt, patternAt, isField, fieldKind, recordKind, restKind, uncommented, kindOf, placeOf, lengthOf}
 
 -- the n octets at place p lie inside the line, and pass the test f or not
@@ -60,7 +60,7 @@ module _ (line v : List ℕ) (p : Place) (o : Occurs line (p .offset) v) where
   read f b e = record { fits = occurs-fits line v (p .offset) o; told = ap f (occurs-read line v (p .offset) o) ∙ e }
 
 says-agent : (line v : List ℕ) (p : Place) → Occurs line (p .offset) v → Says line (Kind.Agent (agentAt p v))
-unfolding agentAt octetsAt readableAgent same isName octets
+unfolding agentAt octetsAt readableAgent agentName nameFront same octets upTo
 says-agent line [] p o = record { fits = omega arith; told = refl }
 says-agent line (c ∷ v) p o =
     split (readableAgent (c ∷ v)) (λ e. rw e (read line (c ∷ v) p o readableAgent true e))

@@ -4,14 +4,17 @@ use Prim.Native.Nat.{ℕ, _≤_, _<_}
 use mathlib.Core.Path.{_≡_}
 use mathlib.Core.Bool.{Bool, true, false, _&&_}
 use mathlib.Core.Logic.{_↔_, _⊎_}
-use mathlib.Core.List.{List, _∷_, _++_, map, List·Memᴰ}
+use mathlib.Core.List.{List, [], _∷_, _++_, map, List·Memᴰ}
 use lib.Dec.{eqb}
-use Rattle.lists.specs.Lists.{any}
+use lib.ListN.{length}
+use Rattle.lists.specs.Lists.{all, any}
 use Rattle.lists.specs.Each.{Each}
 use Rattle.protocol.specs.declared.Side.{Side}
 use Rattle.protocol.specs.declared.Decision.{Decision}
 use Rattle.protocol.specs.Lines.{lineNumber, placeAt}
-use Rattle.protocol.specs.Readable.{names, readablePattern}
+use Rattle.protocol.specs.Octets.{token}
+use Rattle.protocol.specs.Text.{sameIgnoringCase}
+use Rattle.protocol.specs.Readable.{everyone, readablePattern}
 use Rattle.protocol.specs.Entries.{agent, rule, Entry, entries}
 use Rattle.protocol.specs.declared.Rule.{Rule}
 use Rattle.protocol.specs.Rules.{valueOf, ruleOf, applying}
@@ -49,6 +52,23 @@ SmallestGiven k rows = (isGiven k rows ≡ true) × ((j : ℕ) → j < k → isG
 abbrev pub SmallestFirst : List Row → ℕ → Type 0
 SmallestFirst rows n = (k : ℕ) → (k ≡ 0 → ⊥) → (n ≡ k) ↔ SmallestGiven k rows
 
+-- M-105: "its longest beginning of A-Z a-z - _": n is that of the value v
+pub record LongestBeginning (v n : List ℕ) : Type 0 where
+  pub rest : List ℕ
+  pub whole : v ≡ n ++ rest
+  pub octets : all token n ≡ true
+  pub longest : (m back : List ℕ) → v ≡ m ++ back → all token m ≡ true → length m ≤ length n
+
+-- "It is unread exactly if that beginning is empty and the value isn't exactly "*""
+pub record UnreadAgent (v : List ℕ) : Type 0 where
+  pub beginning : LongestBeginning v []
+  pub other : v ≡ everyone → ⊥
+
+-- the value v names who: it is exactly "*", and so is who; or "the rest is ignored", and its name and who "are equal, ignoring ASCII case"
+pub data Names (v who : List ℕ) : Type 0 where
+  byStar : v ≡ everyone → who ≡ everyone → Names v who
+  byName : (n : List ℕ) → LongestBeginning v n → (n ≡ [] → ⊥) → sameIgnoringCase n who ≡ true → Names v who
+
 -- the group g names who: g isn't 0, which is none, and one of its agent lines has a value that does
 pub record GroupNames (file : List ℕ) (es : List Entry) (who : List ℕ) (g : ℕ) : Type 0 where
   pub entry : Entry
@@ -56,7 +76,7 @@ pub record GroupNames (file : List ℕ) (es : List Entry) (who : List ℕ) (g : 
   pub role : entry .role ≡ agent
   pub group : entry .group ≡ g
   pub some : g ≡ 0 → ⊥
-  pub named : names (valueOf file entry) who ≡ true
+  pub named : Names (valueOf file entry) who
 
 -- r is the rule of a rule line whose group names who
 pub record RuleFor (file : List ℕ) (es : List Entry) (who : List ℕ) (r : Rule) : Type 0 where

@@ -14,7 +14,7 @@ use Rattle.protocol.specs.declared.Walked.{Walked}
 use Rattle.protocol.specs.Octets.{token, unreserved, hex, blank, lineEnd, lowerCase, upperCase, hexValue, hexDigit}
 use Rattle.protocol.specs.Text.{octets}
 use Rattle.protocol.specs.Lines.{lineNumber, placeAt}
-use Rattle.protocol.specs.Readable.{patternStart}
+use Rattle.protocol.specs.Readable.{readableAgent, names, patternStart}
 use Rattle.protocol.specs.Entries.{Role, agent, rule, Entry}
 use Rattle.protocol.specs.Rules.{applying}
 use Rattle.protocol.specs.Pattern.{shapeOf}
@@ -63,7 +63,33 @@ ourTable =
     ∷ row "user-agent: a||# x|x|:|user-agent: b|disallow: /" "a" "/" (disallow 7 0 1)
     -- an agent line with nothing behind its colon is unreadable, and joins or starts a group all the same
     ∷ row "user-agent:|disallow: /" "a" "/" (allow 0 1 0)
-    ∷ row "user-agent: a|user-agent: a/1|disallow: /" "a" "/" (disallow 3 1 1)
+    ∷ row "user-agent: a|user-agent: 1|disallow: /" "a" "/" (disallow 3 1 1)
+    -- an agent's name is the value's longest beginning of a name's octets, and the rest is ignored
+    ∷ row "user-agent: DrydockBot/2.1|disallow: /" "DrydockBot" "/" (disallow 2 0 1)
+    ∷ row "user-agent: Bot 2.1|disallow: /" "Bot" "/" (disallow 2 0 1)
+    ∷ row "user-agent: Googlebot*|disallow: /" "Googlebot" "/" (disallow 2 0 1)
+    ∷ row "user-agent: dryDOCK-bot_x/A|disallow: /" "DRYdock-BOT_X" "/" (disallow 2 0 1)
+    -- names are compared whole: none meets a shorter or a longer one
+    ∷ row "user-agent: Drydock|disallow: /" "DrydockBot" "/" (allow 0 0 0)
+    ∷ row "user-agent: DrydockBot|disallow: /" "Drydock" "/" (allow 0 0 0)
+    ∷ row "user-agent: Drydock/Bot|disallow: /" "DrydockBot" "/" (allow 0 0 0)
+    ∷ row "user-agent: DrydockBot/2.1|disallow: /" "Drydock" "/" (allow 0 0 0)
+    -- "*" is exactly "*"
+    ∷ row "user-agent: */2|disallow: /" "a" "/" (allow 0 1 0)
+    ∷ row "user-agent: **|disallow: /" "a" "/" (allow 0 1 0)
+    ∷ row "user-agent: *bot|disallow: /" "bot" "/" (allow 0 1 0)
+    ∷ row "user-agent: bot*|disallow: /" "a" "/" (allow 0 0 0)
+    -- a value that begins with another octet has no name
+    ∷ row "user-agent: 2bot|disallow: /" "bot" "/" (allow 0 1 0)
+    -- a name of more than 64 octets is readable, isn't cut, and so meets nobody
+    ∷ row "user-agent: xxxxxxxxxxxxxxxxxxxxxxxxxxxxxxxxxxxxxxxxxxxxxxxxxxxxxxxxxxxxxxxx/2|disallow: /" "xxxxxxxxxxxxxxxxxxxxxxxxxxxxxxxxxxxxxxxxxxxxxxxxxxxxxxxxxxxxxxxx" "/" (disallow 2 0 1)
+    ∷ row "user-agent: xxxxxxxxxxxxxxxxxxxxxxxxxxxxxxxxxxxxxxxxxxxxxxxxxxxxxxxxxxxxxxxxx|disallow: /" "xxxxxxxxxxxxxxxxxxxxxxxxxxxxxxxxxxxxxxxxxxxxxxxxxxxxxxxxxxxxxxxx" "/" (allow 0 0 0)
+    -- two agent lines of a group, one with a version; and a group that is chosen by such a line, with no "*" group beside it
+    ∷ row "user-agent: a|user-agent: b/1|disallow: /" "b" "/" (disallow 3 0 1)
+    ∷ row "user-agent: b/1|user-agent: a|disallow: /" "a" "/" (disallow 3 0 1)
+    ∷ row "user-agent: a|user-agent: a/1|disallow: /" "a" "/" (disallow 3 0 1)
+    ∷ row "user-agent: */2|user-agent: b/1|disallow: /" "b" "/" (disallow 3 1 1)
+    ∷ row "user-agent: *|disallow: /|user-agent: b/1|allow: /x" "b" "/y" (allow 0 0 2)
     -- the "*" groups' rules aren't added to a named group's, be that group without rules
     ∷ row "user-agent: a|disallow: /x|user-agent: *|disallow: /" "a" "/y" (allow 0 0 2)
     ∷ row "user-agent: *|disallow: /|user-agent: a" "a" "/y" (allow 0 0 0)
@@ -128,6 +154,7 @@ ourTable =
     -- refusals, the smallest number first
     ∷ row "user-agent: *|allow: /" "" "" (refused 2)
     ∷ row "user-agent: *|allow: /" "a1" "/" (refused 2)
+    ∷ row "user-agent: a/1|allow: /" "a/1" "/" (refused 2)
     ∷ row "user-agent: *|allow: /" "a" "" (refused 3)
     ∷ row "user-agent: *|allow: /" "a" "a b" (refused 4)
     ∷ row "user-agent: *|allow: /" "a" "/a b" (refused 5)
@@ -301,8 +328,16 @@ ourLines =
     ∷ lineRow (octets "user-agent: a-B_c") 0 4 12 5
     ∷ lineRow (octets "\tUSER-AGENT :* # a") 0 4 13 1
     ∷ lineRow (octets "user-agent:") 0 5 0 0
-    ∷ lineRow (octets "user-agent: a b") 0 5 12 3
+    -- an agent begins with a name, or is "*"; place and length are the whole value's
+    ∷ lineRow (octets "user-agent: DrydockBot/2.1") 0 4 12 14
+    ∷ lineRow (octets "user-agent: Bot 2.1 # a") 0 4 12 7
+    ∷ lineRow (octets "user-agent: Googlebot*") 0 4 12 10
+    ∷ lineRow (octets "user-agent:a" ++ (0x00 ∷ 0xFF ∷ [])) 0 4 11 3
+    ∷ lineRow (octets "user-agent: */2") 0 5 12 3
     ∷ lineRow (octets "user-agent: **") 0 5 12 2
+    ∷ lineRow (octets "user-agent: *bot") 0 5 12 4
+    ∷ lineRow (octets "user-agent: 2bot") 0 5 12 4
+    ∷ lineRow (octets "user-agent: /bot") 0 5 12 4
     ∷ lineRow (octets "allow: # a") 0 6 0 0
     ∷ lineRow (octets "Allow:/a:b") 0 7 6 4
     ∷ lineRow (octets "allow: a/") 0 8 7 2
@@ -553,6 +588,9 @@ ourSorts =
     ∷ (lineEnd holds "\n\r")
     ∷ (changedBy lowerCase holds "ABCDEFGHIJKLMNOPQRSTUVWXYZ")
     ∷ (changedBy upperCase holds "abcdefghijklmnopqrstuvwxyz")
+    -- what an agent may begin with, and what makes a name another one
+    ∷ ((λ x. readableAgent (x ∷ octets "/")) holds "-ABCDEFGHIJKLMNOPQRSTUVWXYZ_abcdefghijklmnopqrstuvwxyz")
+    ∷ ((λ x. not (names (octets "a" ++ (x ∷ [])) (octets "a"))) holds "-ABCDEFGHIJKLMNOPQRSTUVWXYZ_abcdefghijklmnopqrstuvwxyz")
     -- what a pattern may begin with
     ∷ ((λ x. patternStart (x ∷ [])) holds "*/")
     ∷ []

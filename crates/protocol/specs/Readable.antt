@@ -3,7 +3,7 @@ use Prim.Native.Nat.{ℕ}
 use mathlib.Core.Bool.{Bool, true, false, _&&_, _||_, not}
 use mathlib.Core.List.{List, [], _∷_}
 use Rattle.lists.specs.Choice.{if_then_else_}
-use Rattle.lists.specs.Lists.{empty, all, same}
+use Rattle.lists.specs.Lists.{empty, upTo, same}
 use Rattle.protocol.specs.Octets.{within, token}
 use Rattle.protocol.specs.Text.{octets, begins, sameIgnoringCase}
 
@@ -11,17 +11,22 @@ use Rattle.protocol.specs.Text.{octets, begins, sameIgnoringCase}
 abbrev pub everyone : List ℕ
 everyone = octets "*"
 
--- "one or more octets of A-Z a-z - _"
-unfoldable pub isName : List ℕ → Bool
-isName v = not (empty v) && all token v
+-- M-105: "its longest beginning of A-Z a-z - _ ; the rest is ignored"
+unfoldable pub nameFront : List ℕ → List ℕ
+nameFront v = upTo (λ x. not (token x)) v
 
--- "an agent line is readable if its value is "*" or one or more octets of A-Z a-z - _"
+-- the name of an agent's value: "*" where the value is "exactly "*"", and otherwise that beginning
+unfoldable pub agentName : List ℕ → List ℕ
+agentName v = if same v everyone then everyone else nameFront v
+
+-- M-105: "It is unread exactly if that beginning is empty and the value isn't exactly "*""
 unfoldable pub readableAgent : List ℕ → Bool
-readableAgent v = same v everyone || isName v
+readableAgent v = not (empty (agentName v))
 
--- the value names who, a crawler or "*": "names are equal, ignoring ASCII case, or they are different"; an unreadable one "names nobody"
+-- the value names who, a crawler or "*": "Names are still compared whole"; they "are equal, ignoring ASCII case, or they are different"; an
+-- unreadable value "names nobody"
 unfoldable pub names : List ℕ → List ℕ → Bool
-names v who = readableAgent v && sameIgnoringCase v who
+names v who = readableAgent v && sameIgnoringCase (agentName v) who
 
 -- octets from low to high
 pub record Range : Type 0 where

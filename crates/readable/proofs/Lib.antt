@@ -1,2 +1,3 @@
 pub mod Characters
-mod Names
+mod Naming
+mod BadNames

@@ -1,11 +1,13 @@
-// Whether the value of an agent line, or the pattern of a rule line, is readable; and whether a crawler's name is refused.
+// Whether the value of an agent line is readable, and whom it names; whether the pattern of a rule line is readable; and whether a crawler's name is
+// refused.
 
 ghost use mathlib.Core.Path.{_≡_};
+ghost use mathlib.Core.Bool.{_&&_, not};
 ghost use mathlib.Core.List.{[]};
-ghost use lib.ListN.{length};
-ghost use Rattle.lists.specs.Lists.{all, upTo, same};
+ghost use lib.ListN.{length, drop};
+ghost use Rattle.lists.specs.Lists.{empty, all, upTo, same};
 ghost use Rattle.protocol.specs.Octets.{token};
-ghost use Rattle.protocol.specs.Readable.{everyone, isName, readableAgent, characterForms, dueAfter, wellFormed, patternStart, readablePattern};
+ghost use Rattle.protocol.specs.Readable.{everyone, nameFront, readableAgent, names, characterForms, dueAfter, wellFormed, patternStart, readablePattern};
 ghost use Rattle.protocol.specs.Refusals.{badName};
 ghost use Rattle.readable.specs.Due.{dueRanges, duePast, ordinary, unusual};
 use protocol::Place;
@@ -132,8 +134,9 @@ fn all_token(s: &[u8]) -> bool
     true
 }
 
+// One or more of them.
 fn is_name(v: &[u8]) -> bool
-    ensures { λ r. ⌜ r ≡ isName (now (v .entry)) ⌝ }
+    ensures { λ r. ⌜ r ≡ (not (empty (now (v .entry))) && all token (now (v .entry))) ⌝ }
 {
     if v.len() == 0 {
         return false;
@@ -151,13 +154,40 @@ fn is_everyone(v: &[u8]) -> bool
     v[0] == b'*'
 }
 
+// No octet of a name stands there: a name that reaches so far ends in front of it.
+fn name_ends(v: &[u8], at: Place) -> bool
+    ensures { λ r. ⌜ r ≡ empty (nameFront (drop (at .offset) (now (v .entry)))) ⌝ }
+{
+    let i = at.offset;
+    if v.len() <= i {
+        return true;
+    }
+    !octets::is_token(v[i])
+}
+
 pub fn readable_agent(v: &[u8]) -> bool
     ensures { λ r. ⌜ r ≡ readableAgent (now (v .entry)) ⌝ }
 {
     if is_everyone(v) {
         return true;
     }
-    is_name(v)
+    !name_ends(v, Place { offset: 0 })
+}
+
+// An agent's value names a crawler, or "*". Octets that are equal to a name's are a name's, so the one behind them tells the rest.
+pub fn names(value: &[u8], who: &[u8]) -> bool
+    ensures { λ r. ⌜ r ≡ names (now (value .entry)) (now (who .entry)) ⌝ }
+{
+    if is_everyone(value) {
+        return is_everyone(who);
+    }
+    if !text::same::begins_with(value, who) {
+        return false;
+    }
+    if !is_name(who) {
+        return false;
+    }
+    name_ends(value, Place { offset: who.len() })
 }
 
 // A crawler's name that is refused.

@@ -5,25 +5,16 @@ use mathlib.Core.Bool.{Bool, true, false}
 use mathlib.Core.List.{List, map}
 use native.Mathlib.Omega.{arith}
 use lib.ListN.{length, take, drop, getD, length-map, length-take, List·getD-map}
-use lib.Seq.{getD-take, length-take-le, take-all}
+use lib.Seq.{getD-take, length-take-le}
 use Rattle.lists.specs.Lists.{same}
-use Rattle.lists.proofs.Tests.{same-length, same-end, same-other, same-on}
+use Rattle.lists.proofs.Tests.{same-end, same-other, same-on}
 use Rattle.protocol.specs.Octets.{upper, lowerCase}
 use Rattle.protocol.specs.Text.{sameIgnoringCase}
+use Rattle.protocol.proofs.Texts.{case-length}
 
 lower-octet : (v : List ℕ) (i : ℕ) → getD (map lowerCase v) i 0 ≡ lowerCase (getD v i 0)
 unfolding lowerCase upper
 lower-octet v i = List·getD-map lowerCase v i 0
-
--- texts of two lengths are not equal
-pub case-length : (v w : List ℕ) → (length v ≡ length w → ⊥) → false ≡ sameIgnoringCase v w
-unfolding sameIgnoringCase
-case-length v w h =
-    sym (same-length (map lowerCase v) (map lowerCase w) (λ e. h (sym (length-map v lowerCase) ∙ e ∙ length-map w lowerCase)))
-
--- a word of the text's length is the whole of it
-pub case-whole : (v w : List ℕ) → length v ≡ length w → sameIgnoringCase (take (length w) v) w ≡ sameIgnoringCase v w
-case-whole v w h = ap (λ (l : List ℕ). sameIgnoringCase l w) (take-all (length w) v (omega arith))
 
 -- the front of s that is as long as w, and w: what is left of them from i on is equal
 abbrev pub beginsFrom : ℕ → List ℕ → List ℕ → Bool

@@ -1,6 +1,6 @@
 // Parts of a text: where an octet stands, and where spaces and tabs at the ends stop.
 
-pub mod same; // same.rt: equality ignoring ASCII case
+pub mod same; // same.rt: beginnings, ASCII case ignored
 
 ghost use mathlib.Core.Path.{_≡_};
 ghost use lib.ListN.{length};

@@ -1,4 +1,4 @@
-// Equality ignoring ASCII case.
+// Beginnings, ASCII case ignored.
 
 ghost use mathlib.Core.Path.{_≡_};
 ghost use lib.ListN.{length, take};
@@ -19,14 +19,4 @@ pub fn begins_with(s: &[u8], word: &[u8]) -> bool
         i += 1;
     }
     true
-}
-
-// Equal, ASCII case ignored.
-pub fn same_ignoring_case(v: &[u8], w: &[u8]) -> bool
-    ensures { λ r. ⌜ r ≡ sameIgnoringCase (now (v .entry)) (now (w .entry)) ⌝ }
-{
-    if v.len() != w.len() {
-        return false;
-    }
-    begins_with(v, w)
 }

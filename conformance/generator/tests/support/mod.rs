@@ -41,10 +41,30 @@ impl Told {
         self.kind >= 6
     }
 
+    /// What a readable agent line names: "*", or the value's name.
+    pub fn name(&self) -> &[u8] {
+        match (self.kind, self.value.as_slice()) {
+            (4, b"*") => b"*",
+            (4, value) => name_of(value),
+            _ => b"",
+        }
+    }
+
     /// Names the crawler, in whatever letter case.
     pub fn names(&self, name: &[u8]) -> bool {
-        self.kind == 4 && self.value.eq_ignore_ascii_case(name)
+        self.kind == 4 && self.name().eq_ignore_ascii_case(name)
     }
+
+    /// Names the crawler, and something stands behind the name.
+    pub fn names_and_more(&self, name: &[u8]) -> bool {
+        self.names(name) && self.value.len() > name.len()
+    }
+}
+
+/// The letters, "-" and "_" at a value's beginning.
+pub fn name_of(value: &[u8]) -> &[u8] {
+    let of_name = |octet: &u8| octet.is_ascii_alphabetic() || b"-_".contains(octet);
+    value.split(|octet| !of_name(octet)).next().unwrap_or(b"")
 }
 
 /// The lines of a file with their kinds.

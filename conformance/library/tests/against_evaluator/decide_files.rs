@@ -100,7 +100,8 @@ fn leading_marks() {
     check_rule(&file, b"/x", ("allow", 2, b"/"), [0, 1]);
 }
 
-/// NUL is an octet like others: it ends no file, line, value or name.
+/// NUL is an octet like others: it ends no file, line, value or pattern. Behind
+/// a name it is ignored, as others are.
 #[test]
 fn nul_octets() {
     check_rule(
@@ -115,7 +116,14 @@ fn nul_octets() {
         ("disallow", 2, b"/"),
         [0, 1],
     );
-    check_no_rule(b"user-agent: a\0\ndisallow: /", b"a", b"/", 1, 0);
+    check_rule(
+        b"user-agent: a\0b\ndisallow: /",
+        b"/",
+        ("disallow", 2, b"/"),
+        [0, 1],
+    );
+    check_no_rule(b"user-agent: \0a\ndisallow: /", b"a", b"/", 1, 0);
+    check_no_rule(b"user-agent: *\0\ndisallow: /", b"a", b"/", 1, 0);
     check_no_rule(b"user-agent: a\ndisallow: /\0", b"a", b"/", 1, 0);
     check_no_rule(b"user-agent: a\ndisallow\0: /", b"a", b"/", 0, 0);
     check_no_rule(b"user-agent: a\n\0disallow: /", b"a", b"/", 0, 0);

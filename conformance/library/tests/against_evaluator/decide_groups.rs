@@ -6,7 +6,7 @@ use crate::deciding::check_decide;
 /// File, name, and the lines of the rules that apply. The path is "/", every
 /// pattern too, and so the compared count is the number of those rules; all are
 /// on one side, so that the first of them decides.
-const ROWS: [(&str, &str, &[usize]); 34] = [
+const ROWS: [(&str, &str, &[usize]); 61] = [
     // "if any group names the crawler, the rules of all such groups"
     ("user-agent: a|disallow: /", "a", &[2]),
     (
@@ -108,7 +108,59 @@ const ROWS: [(&str, &str, &[usize]); 34] = [
     ),
     ("user-agent: a|user-agent: 9|disallow: /", "a", &[3]),
     ("user-agent: 9|user-agent: a|disallow: /", "a", &[3]),
-    ("user-agent: a/1|disallow: /", "a", &[]),
+    // "The value's name is now its longest beginning of A-Z a-z - _ ; the rest
+    // is ignored." (M-105)
+    ("user-agent: a/1|disallow: /", "a", &[2]),
+    ("user-agent: DrydockBot/2.1|disallow: /", "DrydockBot", &[2]),
+    ("user-agent: DrydockBot/2.1|disallow: /", "DRYDOCKbot", &[2]),
+    ("user-agent: DrydockBot/2.1|disallow: /", "Drydock", &[]),
+    ("user-agent: DrydockBot/2.1|disallow: /", "DrydockBots", &[]),
+    ("user-agent: Drydock/2.1|disallow: /", "DrydockBot", &[]),
+    ("user-agent: Drydock Bot|disallow: /", "DrydockBot", &[]),
+    ("user-agent: Bot 2.1|disallow: /", "bot", &[2]),
+    ("user-agent: Googlebot*|disallow: /", "googlebot", &[2]),
+    ("user-agent: a:b|disallow: /", "a", &[2]),
+    ("user-agent: a9b|disallow: /", "ab", &[]),
+    ("user-agent: 2bot|disallow: /", "bot", &[]),
+    ("user-agent: /bot|disallow: /", "bot", &[]),
+    // "the value isn't exactly "*""
+    ("user-agent: */2|disallow: /", "a", &[]),
+    ("user-agent: **|disallow: /", "a", &[]),
+    ("user-agent: *a|disallow: /", "a", &[]),
+    ("user-agent: * a|disallow: /", "a", &[]),
+    ("user-agent: *a|user-agent: *|disallow: /", "a", &[3]),
+    // two agent lines of one group, one of them with a version
+    ("user-agent: a/1|user-agent: b|disallow: /", "a", &[3]),
+    ("user-agent: a/1|user-agent: b|disallow: /", "b", &[3]),
+    ("user-agent: b|user-agent: a/1|disallow: /", "a", &[3]),
+    ("user-agent: a/1|user-agent: a/2|disallow: /", "a", &[3]),
+    (
+        "user-agent: a/1|disallow: /|user-agent: A|disallow: /|user-agent: a 2|disallow: /",
+        "a",
+        &[2, 4, 6],
+    ),
+    // a version behind the name: then the "*" groups don't apply
+    (
+        "user-agent: *|disallow: /|user-agent: a/1|disallow: /",
+        "a",
+        &[4],
+    ),
+    (
+        "user-agent: a/1|disallow: /|user-agent: *|disallow: /",
+        "a",
+        &[2],
+    ),
+    ("user-agent: *|disallow: /|user-agent: a/1", "a", &[]),
+    (
+        "user-agent: *|disallow: /|user-agent: a/1|disallow: /",
+        "ab",
+        &[2],
+    ),
+    (
+        "user-agent: *|disallow: /|user-agent: */1|disallow: /",
+        "a",
+        &[2],
+    ),
     // "before the first agent line, to none"
     ("disallow: /|user-agent: a|disallow: /", "a", &[3]),
     ("disallow: /|user-agent: *", "a", &[]),
@@ -161,10 +213,11 @@ fn many_groups() {
 /// The crawler is named first, last or nowhere in a long group.
 #[test]
 fn many_agent_lines() {
-    let others = "user-agent: b\nuser-agent: 9\n\nuser-agent: aa\n".repeat(1_000);
+    let others = "user-agent: b/a\nuser-agent: 9\n\nuser-agent: aa\n".repeat(1_000);
     for (before, after, disallow) in [
         ("user-agent: a\n", "", true),
         ("", "user-agent: a\n", true),
+        ("", "user-agent: A/2.1 b\n", true),
         ("", "", false),
         ("user-agent: a\nallow:\n", "", false),
     ] {

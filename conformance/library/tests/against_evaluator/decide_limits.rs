@@ -119,6 +119,7 @@ fn as_many_unreadable_lines_as_fit() {
         "disallow:$\r",
         "user-agent:\n",
         "user-agent:9\r\n",
+        "user-agent:*a\n",
     ] {
         let (file, times) = filled(b"", line.as_bytes());
         check_no_rule(&file, b"a", b"/", times, 0);
@@ -129,7 +130,7 @@ fn as_many_unreadable_lines_as_fit() {
 /// A group of as many agent lines as fit, the crawler's the first or the last.
 #[test]
 fn as_many_agent_lines_as_fit() {
-    let (own, other) = (b"user-agent:a\n".as_slice(), b"user-agent:b\n".as_slice());
+    let (own, other) = (b"user-agent:a/2\n".as_slice(), b"user-agent:b\n".as_slice());
     let rule = b"disallow:/".as_slice();
     let times = (MOST_FILE - own.len() - rule.len()) / other.len();
     let others = other.repeat(times);
@@ -168,11 +169,41 @@ fn the_longest_name() {
         check_decision((&file, inside, b"/"), expected);
         check_no_rule(&file, &name[..MOST_NAME - 1], b"/", 0, 0);
         check_refused_decision(&file, &name, b"/", 2);
+        // with something behind it too
+        let file = [b"user-agent:".as_slice(), inside, b"/2.1\ndisallow:/"].concat();
+        let expected = disallowed(([2, file.len() - 1, 1], [0, 1]));
+        check_decision((&file, inside, b"/"), expected);
+        check_no_rule(&file, &name[..MOST_NAME - 1], b"/", 0, 0);
         // a longer one in the file is readable, and another one
-        let file = [b"user-agent:".as_slice(), &name, b"\ndisallow:/"].concat();
-        check_no_rule(&file, inside, b"/", 0, 0);
-        check_refused_decision(&file, &name, b"/", 2);
+        for behind in ["", "/2.1", " ", "*"] {
+            let behind = [behind.as_bytes(), b"\ndisallow:/"].concat();
+            let file = [b"user-agent:".as_slice(), &name, &behind].concat();
+            check_no_rule(&file, inside, b"/", 0, 0);
+            check_refused_decision(&file, &name, b"/", 2);
+        }
     }
+}
+
+/// A value fills the file, a name or what stands behind one: nothing is cut.
+#[test]
+fn one_agents_value_fills_the_file() {
+    let (head, tail) = (b"user-agent:a".as_slice(), b"\ndisallow:/".as_slice());
+    for block in ["/", " 2", "*", "9", "\u{e9}", "\0", ":a"] {
+        let file = lengthened(head, block.as_bytes(), tail, MOST_FILE);
+        let expected = disallowed(([2, MOST_FILE - 1, 1], [0, 1]));
+        check_decision((&file, b"A", b"/"), expected);
+        check_no_rule(&file, b"aa", b"/", 0, 0);
+        check_no_rule(&file, b"b", b"/", 0, 0);
+    }
+    for block in ["a", "-a"] {
+        let file = lengthened(head, block.as_bytes(), tail, MOST_FILE);
+        for length in [1, 2, MOST_NAME - 1, MOST_NAME] {
+            let name = &file[b"user-agent:".len()..][..length];
+            check_no_rule(&file, name, b"/", 0, 0);
+        }
+    }
+    let file = lengthened(b"user-agent:*", b"a", tail, MOST_FILE);
+    check_no_rule(&file, b"a", b"/", 1, 0);
 }
 
 /// "a 2,048-octet path (at most 6,142 normalised)"

@@ -17,11 +17,12 @@ const NEIGHBOURS: [(&str, &str); 7] = [
     ("/", "$"),
 ];
 
-const FILES: [&str; 8] = [
+const FILES: [&str; 9] = [
     "",
     "user-agent:a\ndisallow:/",
     "user-agent:a\ndisallow:/a\r",
     "user-agent:a",
+    "disallow:/\nuser-agent:a/",
     "user-agent:*\nallow:/%",
     "\nuser-agent:a\ndisallow:",
     "user-agent:a\ndisallow:*",

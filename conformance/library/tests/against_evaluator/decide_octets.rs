@@ -20,6 +20,9 @@ fn in_every_place() {
         ("", "user-agent:a\ndisallow:/"),
         ("user-agent:", "\ndisallow:/"),
         ("user-agent:a", "\ndisallow:/"),
+        ("user-agent:a", "a\ndisallow:/"),
+        ("user-agent:a/", "\ndisallow:/"),
+        ("user-agent:*", "\ndisallow:/"),
         ("user-agent", "a\ndisallow:/"),
         ("user-agent:a", "disallow:/"),
         ("user-agent:a\n", "disallow:/"),
@@ -63,7 +66,7 @@ fn two_octets() {
 /// Each octet of a name with each one of an agent's value, alone and inside.
 #[test]
 fn names_and_agents() {
-    let mut equal = 0;
+    let (mut equal, mut before) = (0, 0);
     for octet in 0..=255u8 {
         each_between(b"user-agent:", b"\ndisallow:/", |file| {
             check_decide(file, &[octet], b"/");
@@ -73,9 +76,20 @@ fn names_and_agents() {
             let file = [b"user-agent:x".as_slice(), &[agent], b"Y\ndisallow:/"].concat();
             equal += usize::from(check_decide(&file, &name, b"/").line > 0);
         }
+        each_between(
+            &[b"user-agent:x", [octet].as_slice()].concat(),
+            b"\ndisallow:/",
+            |file| {
+                check_decide(file, b"X", b"/");
+            },
+        );
+        let file = [b"user-agent:x".as_slice(), &[octet], b"Y\ndisallow:/"].concat();
+        before += usize::from(check_decide(&file, b"X", b"/").line > 0);
     }
     // each of 52 letters in two cases, "-" and "_"
     assert_eq!(equal, 2 * 52 + 2);
+    // the others end the name x, and some of them the value too
+    assert_eq!(before, 256 - 54);
 }
 
 /// Each octet in a rule with each one in the path.

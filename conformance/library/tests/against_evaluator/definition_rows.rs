@@ -6,7 +6,7 @@ use crate::ask;
 use crate::deciding::check_decide;
 
 /// How many rows ask the library: all but those of the program.
-const ROWS: usize = 181;
+const ROWS: usize = 209;
 
 /// Whether the row asks the library.
 fn check(asked: &Asked) -> bool {

@@ -24,7 +24,13 @@ fn the_longest_line() {
         ("disallow:$", b'*', told(0, 11, 9, MOST_LINE - 9)),
         ("disallow:/", 0xC3, told(0, 11, 9, MOST_LINE - 9)),
         ("user-agent:", b'a', told(0, 4, 11, MOST_LINE - 11)),
+        ("user-agent:a", b'9', told(0, 4, 11, MOST_LINE - 11)),
+        ("user-agent:a/", b'a', told(0, 4, 11, MOST_LINE - 11)),
+        ("user-agent:a", 0xFF, told(0, 4, 11, MOST_LINE - 11)),
         ("user-agent:", b'*', told(0, 5, 11, MOST_LINE - 11)),
+        ("user-agent:*", b'a', told(0, 5, 11, MOST_LINE - 11)),
+        ("user-agent:9", b'a', told(0, 5, 11, MOST_LINE - 11)),
+        ("user-agent:*", b' ', told(0, 4, 11, 1)),
         ("allow:/x", b' ', told(0, 7, 6, 2)),
         ("allow:/x#", b'/', told(0, 7, 6, 2)),
         ("", b' ', told(0, 1, 0, 0)),
@@ -44,7 +50,16 @@ fn the_longest_line() {
 /// What decides stands at the very end of the longest line.
 #[test]
 fn the_last_octet_of_the_longest_line() {
-    for beginning in ["", "x", "allow:/", "allow:*", "user-agent:a", "allow:/#"] {
+    for beginning in [
+        "",
+        "x",
+        "allow:/",
+        "allow:*",
+        "user-agent:a",
+        "user-agent:a/",
+        "user-agent:*",
+        "allow:/#",
+    ] {
         let octet = if beginning.is_empty() { b' ' } else { b'a' };
         let mut line = lengthened(beginning.as_bytes(), &[octet], b"", MOST_LINE);
         for last in *b"\r\n#: \t\xC3\x80\x7Fa" {
@@ -131,6 +146,8 @@ fn memory_around_the_line_is_unseen() {
                 "allow:/x",
                 "allow:*",
                 "user-agent:bot",
+                "user-agent:bot/",
+                "user-agent:*",
                 "disallow:/%",
                 " ",
             ] {

@@ -9,7 +9,7 @@ const NAMES: [&[u8]; 3] = [b"user-agent", b"allow", b"disallow"];
 
 /// Values of all sorts: of readable and unreadable agents and patterns. The
 /// star is a readable one of both.
-const VALUES: [&[u8]; 4] = [b"bot", b"*", b"/x", b""];
+const VALUES: [&[u8]; 5] = [b"bot", b"bot/2", b"*", b"/x", b""];
 
 /// Checks the lines that have each octet between these two parts.
 fn check_between(before: &[u8], after: &[u8]) {
@@ -102,12 +102,19 @@ fn on_both_sides_of_the_colon() {
 #[test]
 fn in_an_agents_value() {
     for colon in [b"user-agent:".as_slice(), b" User-Agent\t: "] {
-        for (before, after) in [("", ""), ("", "bot"), ("b", "t"), ("bot", ""), ("", "*")] {
+        for (before, after) in [
+            ("", ""),
+            ("", "bot"),
+            ("b", "t"),
+            ("bot", ""),
+            ("bot/", "2"),
+            ("", "*"),
+            ("*", ""),
+        ] {
             let before = [colon, before.as_bytes()].concat();
             check_between(&before, after.as_bytes());
             check_two_between(&before, after.as_bytes());
         }
-        check_between(&[colon, b"*"].concat(), b"");
     }
 }
 
@@ -138,6 +145,60 @@ fn check_told(line: &[u8], [refusal, kind, place, length]: [usize; 4]) {
         length,
     };
     assert_eq!(check_line(line), expected, "{}", line.escape_ascii());
+}
+
+/// "unread exactly if that beginning is empty and the value isn't exactly "*""
+/// (M-105).
+#[test]
+fn as_the_first_octet_of_an_agents_value() {
+    for octet in 0..=255 {
+        let line = [b"user-agent:", [octet].as_slice(), b"x"].concat();
+        match octet {
+            b'\r' | b'\n' => check_told(&line, [9, 0, 0, 0]),
+            // comment from there on
+            b'#' => check_told(&line, [0, 5, 0, 0]),
+            // dropped, and "x" is the value
+            b' ' | b'\t' => check_told(&line, [0, 4, 12, 1]),
+            b'A'..=b'Z' | b'a'..=b'z' | b'-' | b'_' => check_told(&line, [0, 4, 11, 2]),
+            _ => check_told(&line, [0, 5, 11, 2]),
+        }
+    }
+}
+
+/// "the rest is ignored", but "places and lengths stay the whole value's"
+/// (M-105).
+#[test]
+fn behind_a_name() {
+    for octet in 0..=255 {
+        let middle = [b"user-agent:x", [octet].as_slice(), b"2"].concat();
+        let last = [b"user-agent:x".as_slice(), &[octet]].concat();
+        let lengths = match octet {
+            b'\r' | b'\n' => {
+                check_told(&middle, [9, 0, 0, 0]);
+                check_told(&last, [9, 0, 0, 0]);
+                continue;
+            }
+            b'#' => [1, 1],
+            b' ' | b'\t' => [3, 1],
+            _ => [3, 2],
+        };
+        check_told(&middle, [0, 4, 11, lengths[0]]);
+        check_told(&last, [0, 4, 11, lengths[1]]);
+    }
+}
+
+/// Nothing may stand behind a star.
+#[test]
+fn behind_a_star_as_an_agents_value() {
+    for octet in 0..=255 {
+        let line = [b"user-agent:*".as_slice(), &[octet]].concat();
+        match octet {
+            b'\r' | b'\n' => check_told(&line, [9, 0, 0, 0]),
+            // comment, or dropped: "*" is the value
+            b'#' | b' ' | b'\t' => check_told(&line, [0, 4, 11, 1]),
+            _ => check_told(&line, [0, 5, 11, 2]),
+        }
+    }
 }
 
 /// "a readable pattern begins with "/" or "*"" (M-102).

@@ -1,6 +1,7 @@
 //! The library, called through its C interface, against the independent
 //! evaluator and the examples of the sources.
 
+mod agent_values;
 mod ask;
 mod decide_files;
 mod decide_groups;

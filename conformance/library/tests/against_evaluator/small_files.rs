@@ -5,7 +5,7 @@ use crate::deciding::check_decide;
 const LINES: [&str; 9] = [
     "user-agent: a",
     "user-agent: *",
-    "user-agent: b",
+    "user-agent: B/2.1",
     "user-agent: 9",
     "allow: *x",
     "disallow: /",

@@ -11,7 +11,7 @@ use crate::texts::MOST_NORMALISED;
 /// and for a match.
 const DECIDE_ROWS: usize = 158;
 const NORMALISE_ROWS: usize = 16;
-const LINE_ROWS: usize = 29;
+const LINE_ROWS: usize = 31;
 const MATCH_ROWS: usize = 89;
 
 #[test]

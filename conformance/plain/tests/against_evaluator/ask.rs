@@ -1,5 +1,12 @@
 //! What the tests of deciding need to ask.
 
+use evaluator::LineKind;
+
+/// The plain evaluator tells no kinds of lines; this is the independent one's.
+pub fn check_line(line: &[u8]) -> LineKind {
+    evaluator::line_kind(line)
+}
+
 /// Memory of exactly these octets.
 pub fn exact(octets: &[u8]) -> Box<[u8]> {
     Box::from(octets)

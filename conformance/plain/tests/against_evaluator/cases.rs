@@ -11,7 +11,7 @@ use crate::deciding::{check_decide, question_shown};
 
 /// How many of the examples, and of the definitions' rows, ask for a decision.
 const EXAMPLES: usize = 158;
-const ROWS: usize = 90;
+const ROWS: usize = 111;
 
 /// Generated questions of each of two sorts, with long files, and walks of each
 /// of two sorts.

@@ -5,6 +5,8 @@
 
 extern crate self as library;
 
+#[path = "../../../library/tests/against_evaluator/agent_values.rs"]
+mod agent_values;
 mod ask;
 mod cases;
 #[path = "../../../library/tests/against_evaluator/decide_files.rs"]

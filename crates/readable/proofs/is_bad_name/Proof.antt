@@ -1,5 +1,5 @@
 -- `readable::is_bad_name` meets its contract. Assumes nothing.
-use Rattle.readable.proofs.Names.{name-empty, name-long, name-octets}
+use Rattle.readable.proofs.BadNames.{name-empty, name-long, name-octets}
 use borrow.Author.Needs.{needs}
 use Rattle.readable.proofs.is_bad_name.Statement.{statement}
 use Rattle.readable.proofs.is_bad_name.Tie as tie

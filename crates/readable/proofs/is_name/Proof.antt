@@ -1,18 +1,15 @@
 -- `readable::is_name` meets its contract. Assumes nothing.
 use Rattle.lists.proofs.Tests.{empty-none, empty-some}
-use Rattle.protocol.specs.Readable.{isName}
 use Rattle.readable.proofs.is_name.Statement.{statement}
 use Rattle.readable.proofs.is_name.Tie as tie
 
 returns : tie.Need-returns
-unfolding isName
 returns c = rw (empty-none (c .before .before .args .v .now) (c .if1 .taken))
 
 all-token-requires : tie.Need-all-token-requires
 all-token-requires c κs = tt
 
 returns-2 : tie.Need-returns-2
-unfolding isName
 returns-2 c = rw (empty-some (c .before .before .before .args .v .now) (c .before .if1 .left)) (c .all-token .ensures)
 
 pub is-name-spec : {M : Type 1} → statement M
