@@ -15,7 +15,8 @@ everyone = octets "*"
 unfoldable pub nameFront : List ℕ → List ℕ
 nameFront v = upTo (λ x. not (token x)) v
 
--- the name of an agent's value: "*" where the value is "exactly "*"", and otherwise that beginning
+-- the name of an agent's value: "*" where the value is "exactly "*"", and otherwise that beginning. "DrydockBot/2.1" has the name DrydockBot,
+-- "Bot 2.1" has Bot and "Googlebot*" has Googlebot; "*/2", "**", "*bot", "2bot" and the empty value have none
 unfoldable pub agentName : List ℕ → List ℕ
 agentName v = if same v everyone then everyone else nameFront v
 
