@@ -19,6 +19,11 @@ class Deciding(unittest.TestCase):
         file = b"user-agent: *\ndisallow: *.gif$"
         self.assertEqual(robots.decide(file, b"a", b"/x.gif"), (0, True, 2, 24, 6, 0, 4))
 
+    def test_m_105s_example(self):
+        file = b"user-agent: DrydockBot/2.1\ndisallow: /draft"
+        self.assertEqual(robots.decide(file, b"drydockbot", b"/draft/9"), (0, True, 2, 37, 6, 0, 6))
+        self.assertEqual(robots.decide(file, b"Drydock", b"/draft/9"), (0, False, 0, 0, 0, 0, 0))
+
     def test_a_name_with_a_space_is_refused(self):
         """"A refused decision holds its number, disallow, and zeros." """
         decision = robots.decide(FILE, b"no name", PATH)

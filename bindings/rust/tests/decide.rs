@@ -47,6 +47,32 @@ fn m_102s_example() {
     assert_eq!(robots::decide(file, b"a", b"/x.gif"), Ok(expected));
 }
 
+#[test]
+fn m_105s_example() {
+    let file = b"user-agent: DrydockBot/2.1\ndisallow: /draft";
+    let expected = Decision {
+        disallow: true,
+        line: 2,
+        place: 37,
+        length: 6,
+        unread: 0,
+        compared: 6,
+    };
+    assert_eq!(
+        robots::decide(file, b"drydockbot", b"/draft/9"),
+        Ok(expected)
+    );
+    let open = Decision {
+        disallow: false,
+        line: 0,
+        place: 0,
+        length: 0,
+        unread: 0,
+        compared: 0,
+    };
+    assert_eq!(robots::decide(file, b"Drydock", b"/draft/9"), Ok(open));
+}
+
 /// "A refused decision holds its number, disallow, and zeros."
 #[test]
 fn a_name_with_a_space_is_refused() {
