@@ -62,15 +62,7 @@ fn m_105s_example() {
         robots::decide(file, b"drydockbot", b"/draft/9"),
         Ok(expected)
     );
-    let open = Decision {
-        disallow: false,
-        line: 0,
-        place: 0,
-        length: 0,
-        unread: 0,
-        compared: 0,
-    };
-    assert_eq!(robots::decide(file, b"Drydock", b"/draft/9"), Ok(open));
+    assert_eq!(robots::decide_disallow(file, b"Drydock", b"/draft/9"), 0);
 }
 
 /// "A refused decision holds its number, disallow, and zeros."

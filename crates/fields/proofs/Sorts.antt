@@ -1,13 +1,14 @@
 -- The octets that tell a line's parts apart: colons, stops, spaces and tabs, and the others, of which names are made. Assumes nothing.
-use Prim.Native.Nat.{ℕ, _+_, _≤_, _<_}
+use Prim.Native.Nat.{ℕ, _+_, _<_}
 use mathlib.Core.Path.{_≡_, refl, sym, ap, _∙_}
 use mathlib.Core.Bool.{Bool, true, false, _||_, not, false≢true}
 use native.Mathlib.Omega.{arith}
-use lib.Dec.{eqb, leb}
-use borrow.Author.Tests.{eqb-true, ne-eqb, leb-true}
-use Rattle.lists.proofs.Bools.{split, and-left}
-use Rattle.protocol.specs.Octets.{is, blank, lineEnd, upper, lowerCase}
+use lib.Dec.{eqb}
+use borrow.Author.Tests.{eqb-true, ne-eqb}
+use Rattle.lists.proofs.Bools.{split}
+use Rattle.protocol.specs.Octets.{is, blank, lineEnd, lowerCase}
 use Rattle.protocol.specs.Text.{solid}
+use Rattle.protocol.proofs.Texts.{either-case}
 use Rattle.fields.specs.Fields.{stop, delimiter}
 
 pub stop-solid : (x : ℕ) → stop x ≡ true → solid x ≡ true
@@ -48,13 +49,7 @@ past-plain x h = rw (ne-eqb x 58 (λ e. omega arith), past-stop x (omega arith),
 
 -- in either case
 plain-case : (x : ℕ) → plain (lowerCase x) ≡ plain x
-unfolding lowerCase upper
-plain-case x =
-    split (upper x)
-    (λ e.
-    let low : 65 ≤ x = leb-true 65 x (and-left (leb 65 x) (leb x 90) e) in
-    rw e (past-plain (x + 32) (omega arith) ∙ sym (past-plain x (omega arith))))
-    (λ e. rw e)
+plain-case = either-case plain (λ x l h. past-plain (x + 32) (omega arith) ∙ sym (past-plain x (omega arith)))
 
 -- it is none of the others
 pub record Plain (x : ℕ) : Type 0 where

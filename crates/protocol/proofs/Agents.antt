@@ -6,22 +6,22 @@ use mathlib.Core.Bool.{Bool, true, false, _&&_, _||_, not, and-false, false≢tr
 use mathlib.Core.Logic.{_↔_}
 use mathlib.Core.List.{List, [], _∷_, _++_, append-nil}
 use native.Mathlib.Omega.{arith}
-use lib.Dec.{leb, eqb}
+use lib.Dec.{eqb}
 use lib.ListN.{length, take, length-append}
 use lib.Seq.{take-all}
-use borrow.Author.Tests.{leb-true, ltb-false, eqb-true, not-false}
+use borrow.Author.Tests.{ltb-false, eqb-true, eq-eqb, ne-eqb, not-false}
 use Rattle.lists.specs.Lists.{empty, all, upTo, from, same}
 use Rattle.lists.proofs.Bools.{split, and-left, and-right}
 use Rattle.lists.proofs.Parts.{upTo-from}
 use Rattle.lists.proofs.Fronts.{front-passes, front-append}
 use Rattle.lists.proofs.Scans.{take-upTo}
 use Rattle.lists.proofs.Tests.{empty-some, empty-known, same-equal}
-use Rattle.protocol.specs.Octets.{upper, lower, token, lowerCase}
+use Rattle.protocol.specs.Octets.{is, upper, lower, token, lowerCase}
 use Rattle.protocol.specs.Text.{octets, sameIgnoringCase}
 use Rattle.protocol.specs.Readable.{everyone, nameFront, agentName, readableAgent, names}
 use Rattle.protocol.specs.Refusals.{over, badName}
 use Rattle.protocol.specs.Meaning.{LongestBeginning, UnreadAgent, Names, byStar, byName}
-use Rattle.protocol.proofs.Texts.{case-length}
+use Rattle.protocol.proofs.Texts.{case-length, either-case}
 
 -- "its longest beginning of A-Z a-z - _": there is one,
 pub front-longest : (v : List ℕ) → LongestBeginning v (nameFront v)
@@ -62,10 +62,13 @@ star-only [] h = absurd (false≢true h)
 star-only (x ∷ y ∷ l) h = absurd (false≢true (and-right (eqb (code "*") (lowerCase x)) false h))
 star-only (x ∷ []) h = ap (λ (y : ℕ). y ∷ []) (alone (eqb-true (code "*") (lowerCase x) (and-left (eqb (code "*") (lowerCase x)) true h)))
   where
+    other : (y : ℕ) → code "A" ≤ y → is "*" y ≡ false
+    other y l = ne-eqb y (code "*") (λ e. omega arith)
+
     alone : code "*" ≡ lowerCase x → x ≡ code "*"
     alone e =
-        split (upper x) (λ u. absurd (omega (arith, rw u at e, leb-true (code "A") x (and-left (leb (code "A") x) (leb x (code "Z")) u))))
-        (λ u. sym (rw u at e))
+        eqb-true x (code "*")
+        (sym (either-case (is "*") (λ y l h. other (y + 32) (omega arith) ∙ sym (other y l)) x) ∙ eq-eqb (lowerCase x) (code "*") (sym e))
 
 star-itself : sameIgnoringCase everyone everyone ≡ true
 unfolding sameIgnoringCase same octets lowerCase upper

@@ -2,7 +2,7 @@
 use Prim.Native.Nat.{ℕ, _+_, _≤_}
 use Prim.Native.Char.{code}
 use mathlib.Core.Path.{_≡_, refl, sym, ap, _∙_}
-use mathlib.Core.Bool.{Bool, true, false, _&&_, _||_}
+use mathlib.Core.Bool.{true, false}
 use mathlib.Core.List.{List, [], _∷_, map}
 use native.Mathlib.Omega.{arith}
 use lib.Dec.{leb}
@@ -20,20 +20,23 @@ unfolding sameIgnoringCase
 case-length v w h =
     sym (same-length (map lowerCase v) (map lowerCase w) (λ e. h (sym (length-map v lowerCase) ∙ e ∙ length-map w lowerCase)))
 
-no-letter : (x : ℕ) → upper x ≡ false → lowerCase x ≡ x
-unfolding lowerCase
-no-letter x u = rw u
+-- what is alike for a letter in both cases is so for every octet
+module _ {A : Type 0} (f : ℕ → A) (alike : (x : ℕ) → code "A" ≤ x → x ≤ code "Z" → f (x + 32) ≡ f x) where
+  pub either-case : (x : ℕ) → f (lowerCase x) ≡ f x
+  unfolding lowerCase upper
+  either-case x =
+      split (upper x)
+      (λ u.
+      rw u (alike x (leb-true (code "A") x (and-left (leb (code "A") x) (leb x (code "Z")) u)) (leb-true x (code "Z") (and-right (leb (code "A") x) (leb x (code "Z")) u))))
+      (λ u. rw u)
 
--- a letter is an octet of a name in either case
+-- a letter is an octet of a name
 token-case : (x : ℕ) → token (lowerCase x) ≡ token x
-unfolding token lowerCase upper lower
-token-case x =
-    split (upper x)
-    (λ u.
-    let low : code "A" ≤ x = leb-true (code "A") x (and-left (leb (code "A") x) (leb x (code "Z")) u) in
-    let high : x ≤ code "Z" = leb-true x (code "Z") (and-right (leb (code "A") x) (leb x (code "Z")) u) in
-    rw (u, le-leb (code "A") (x + 32) (omega arith), lt-leb (x + 32) (code "Z") (omega arith), le-leb (code "a") (x + 32) (omega arith), le-leb (x + 32) (code "z") (omega arith)))
-    (λ u. ap token (no-letter x u))
+unfolding token upper lower
+token-case =
+    either-case token
+    (λ x l h.
+    rw (le-leb (code "A") (x + 32) (omega arith), lt-leb (x + 32) (code "Z") (omega arith), le-leb (code "a") (x + 32) (omega arith), le-leb (x + 32) (code "z") (omega arith), le-leb (code "A") x l, le-leb x (code "Z") h))
 
 tokens-case : (v : List ℕ) → all token (map lowerCase v) ≡ all token v
 unfolding all

@@ -84,7 +84,7 @@ ourTable =
     -- a name of more than 64 octets is readable, isn't cut, and so meets nobody
     ∷ row "user-agent: xxxxxxxxxxxxxxxxxxxxxxxxxxxxxxxxxxxxxxxxxxxxxxxxxxxxxxxxxxxxxxxx/2|disallow: /" "xxxxxxxxxxxxxxxxxxxxxxxxxxxxxxxxxxxxxxxxxxxxxxxxxxxxxxxxxxxxxxxx" "/" (disallow 2 0 1)
     ∷ row "user-agent: xxxxxxxxxxxxxxxxxxxxxxxxxxxxxxxxxxxxxxxxxxxxxxxxxxxxxxxxxxxxxxxxx|disallow: /" "xxxxxxxxxxxxxxxxxxxxxxxxxxxxxxxxxxxxxxxxxxxxxxxxxxxxxxxxxxxxxxxx" "/" (allow 0 0 0)
-    -- two agent lines of a group, one with a version; and a group that is chosen by such a line, with no "*" group beside it
+    -- two agent lines of a group, one with a version; and a group that such a line chooses, so that the rules for "*" don't apply
     ∷ row "user-agent: a|user-agent: b/1|disallow: /" "b" "/" (disallow 3 0 1)
     ∷ row "user-agent: b/1|user-agent: a|disallow: /" "a" "/" (disallow 3 0 1)
     ∷ row "user-agent: a|user-agent: a/1|disallow: /" "a" "/" (disallow 3 0 1)
