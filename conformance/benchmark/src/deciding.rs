@@ -30,31 +30,35 @@ pub fn run() {
         "library/evaluator",
         "library/LF pass"
     );
-    for site in [
-        sites::small(),
-        sites::large(),
-        sites::longest(),
-        sites::eleven_stars(),
-        sites::remarks(),
-    ] {
+    for site in sites::all() {
         run_site(&site);
     }
 }
 
 fn run_site(site: &Site) {
-    let questions: Vec<Question> = site
-        .names
+    let questions = questions(site);
+    check(site, &questions);
+    let asked = asked(site);
+    print_row(site, &questions, asked.len(), &medians(site, &asked));
+}
+
+/// Each name with each path.
+fn questions(site: &Site) -> Vec<Question<'_>> {
+    site.names
         .iter()
         .flat_map(|name| {
             site.paths
                 .iter()
                 .map(|path| (name.as_bytes(), path.as_bytes()))
         })
-        .collect();
-    check(site, &questions);
+        .collect()
+}
+
+/// The questions of a pass.
+pub fn asked(site: &Site) -> Vec<Question<'_>> {
+    let questions = questions(site);
     let times = OCTETS.div_ceil(site.file.len() * questions.len());
-    let asked = questions.repeat(times);
-    print_row(site, &questions, asked.len(), &medians(site, &asked));
+    questions.repeat(times)
 }
 
 /// Of library, plain C and evaluator, in this order.
@@ -85,7 +89,7 @@ fn medians(site: &Site, asked: &[Question]) -> Medians<3> {
 }
 
 /// How many of the questions are disallowed.
-fn sum(asked: &[Question], disallow: impl Fn(&[u8], &[u8]) -> usize) -> usize {
+pub fn sum(asked: &[Question], disallow: impl Fn(&[u8], &[u8]) -> usize) -> usize {
     asked
         .iter()
         .map(|(name, path)| disallow(black_box(name), black_box(path)))

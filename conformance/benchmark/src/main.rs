@@ -1,10 +1,12 @@
 //! How long the library takes, beside an evaluator in plain C, the independent
-//! evaluator, and a pass over the same octets that counts LFs.
-//! `docs/BENCHMARKS.md` says what is measured.
+//! evaluator, and a pass over the same octets that counts LFs; or beside another
+//! build of it. `docs/BENCHMARKS.md` says what is measured.
 
+mod beside;
 mod deciding;
 mod eleven;
 mod inputs;
+mod loaded;
 mod measure;
 mod passes;
 mod sites;
@@ -17,23 +19,36 @@ use passes::Passes;
 
 const USAGE: &str =
     "cargo run --release --manifest-path conformance/Cargo.toml -p benchmark --offline --locked";
+const MODES: &str =
+    "alone or with '-- deciding', '-- beside OLD/librobots.a' or '-- once ARCHIVE ROW' behind it";
 
 fn main() {
     let arguments: Vec<String> = std::env::args().skip(1).collect();
-    let deciding_only = match arguments.as_slice() {
-        [] => false,
-        [table] if table == "deciding" => true,
-        _ => misused("it takes no argument, or 'deciding'"),
-    };
+    let arguments: Vec<&str> = arguments.iter().map(String::as_str).collect();
     if cfg!(debug_assertions) {
         misused("it is built without --release");
     }
+    match arguments[..] {
+        [] => run_all(),
+        ["deciding"] => run_deciding(),
+        ["beside", older] => beside::run(older),
+        ["once", archive, row] => beside::once(archive, row),
+        _ => misused("it takes no such arguments"),
+    }
+}
+
+fn print_unit() {
     println!("ns for each octet, median of {}", measure::REPETITIONS);
     println!();
-    if deciding_only {
-        deciding::run();
-        return;
-    }
+}
+
+fn run_deciding() {
+    print_unit();
+    deciding::run();
+}
+
+fn run_all() {
+    print_unit();
     run_records();
     println!();
     deciding::run();
@@ -42,9 +57,11 @@ fn main() {
 }
 
 fn misused(fault: &str) -> ! {
-    eprintln!(
-        "benchmark: {fault}: run '{USAGE}', with '-- deciding' behind it for that table alone"
-    );
+    stop(&format!("{fault}: run '{USAGE}', {MODES}"));
+}
+
+fn stop(message: &str) -> ! {
+    eprintln!("benchmark: {message}");
     exit(2);
 }
 
@@ -61,12 +78,9 @@ fn run_records() {
         "library/evaluator",
         "library/LF pass"
     );
-    run(&inputs::mixed_file(), &passes::KINDS);
-    run(&inputs::rules_file(), &passes::KINDS);
-    run(&inputs::plain_paths(), &passes::NORMALISING);
-    run(&inputs::escaped_paths(), &passes::NORMALISING);
-    run(&inputs::fixed_patterns(), &passes::MATCHING);
-    run(&inputs::star_patterns(), &passes::MATCHING);
+    for (input, passes) in passes::ASKED {
+        run(&input(), passes);
+    }
 }
 
 fn run(input: &Input, passes: &Passes) {

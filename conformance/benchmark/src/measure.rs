@@ -9,6 +9,22 @@ pub const REPETITIONS: usize = 201;
 /// Passes of each sort before the first that counts.
 const WARM_UP: usize = 5;
 
+/// Turns of two builds at each place of their code. It is odd too.
+pub const TURNS: usize = 101;
+
+/// Each lowers the stack to another place in a page of 4,096 octets, and to
+/// another in a line of 64 than the one before. They are odd in number, so that
+/// either build begins at each place.
+const LOWERING: [fn(&mut dyn FnMut()); 7] = [
+    lower_by::<16>,
+    lower_by::<608>,
+    lower_by::<1_200>,
+    lower_by::<1_792>,
+    lower_by::<2_384>,
+    lower_by::<2_976>,
+    lower_by::<3_568>,
+];
+
 /// Gives one sum.
 pub type Pass<'a> = &'a dyn Fn() -> usize;
 
@@ -54,13 +70,51 @@ pub fn measure<const ANSWERING: usize>(turns: &Turns<ANSWERING>) -> Medians<ANSW
     }
 }
 
+/// Measures two builds one after the other, again and again, at each place of
+/// their code: nanoseconds of a pass by place and turn. The pass is given the
+/// place, and 0 or 1 for the build. Each time both must give the same sum.
+pub fn measure_beside(
+    name: &str,
+    places: usize,
+    pass: &dyn Fn(usize, usize) -> usize,
+) -> Vec<Vec<[f64; 2]>> {
+    let mut times = vec![Vec::new(); places];
+    for turn in 0..WARM_UP + TURNS {
+        // the other build begins at the next turn
+        let order = [turn % 2, 1 - turn % 2];
+        for (place, times) in times.iter_mut().enumerate() {
+            let mut pair = [(0.0, 0); 2];
+            LOWERING[turn % LOWERING.len()](&mut || {
+                for build in order {
+                    pair[build] = timed(&|| pass(place, build));
+                }
+            });
+            assert_eq!(pair[0].1, pair[1].1, "{name}: sums");
+            if turn >= WARM_UP {
+                times.push(pair.map(|(time, _)| time));
+            }
+        }
+    }
+    times
+}
+
+/// Runs it with the stack lower by so many octets, and a frame.
+#[inline(never)]
+fn lower_by<const OCTETS: usize>(run: &mut dyn FnMut()) {
+    let mut room = [0_u8; OCTETS];
+    black_box(&mut room);
+    run();
+    // used after the call too, so that it stays on the stack till then
+    black_box(&mut room);
+}
+
 fn timed(pass: Pass) -> (f64, usize) {
     let start = Instant::now();
     let sum = black_box(pass());
     (start.elapsed().as_nanos() as f64, sum)
 }
 
-fn median(mut times: Vec<f64>) -> f64 {
+pub fn median(mut times: Vec<f64>) -> f64 {
     times.sort_by(f64::total_cmp);
     times[times.len() / 2]
 }

@@ -2,42 +2,53 @@
 
 use std::hint::black_box;
 
-use crate::inputs::Input;
+use crate::inputs::{self, Input};
+use crate::loaded::Loaded;
 use crate::measure::{measure, Medians, Turns};
 
-/// The same question asked of all records, by the library and by the
-/// evaluator.
+/// The same question asked of all records: of the library, of a build of it
+/// that is loaded, and of the evaluator.
 pub struct Passes {
+    /// The exported function that is asked.
+    pub function: &'static str,
     /// How many records one question takes.
     pub parts: usize,
     pub library: fn(&[&[u8]]) -> usize,
+    pub loaded: fn(&[&[u8]], &Loaded) -> usize,
     pub evaluator: fn(&[&[u8]]) -> usize,
     /// Whether both give the same whole answer to one question.
     same: fn(&[&[u8]]) -> bool,
 }
 
+/// Makes an input.
+type Make = fn() -> Input;
+
+/// Each input, and what is asked about it.
+pub const ASKED: [(Make, &Passes); 6] = [
+    (inputs::mixed_file, &KINDS),
+    (inputs::rules_file, &KINDS),
+    (inputs::plain_paths, &NORMALISING),
+    (inputs::escaped_paths, &NORMALISING),
+    (inputs::fixed_patterns, &MATCHING),
+    (inputs::star_patterns, &MATCHING),
+];
+
 /// The kind of each line.
-pub const KINDS: Passes = Passes {
+const KINDS: Passes = Passes {
+    function: "robots_line_kind",
     parts: 1,
-    library: |lines| {
-        lines
-            .iter()
-            .map(|line| library::line_kind(black_box(line)))
-            .sum()
-    },
-    evaluator: |lines| {
-        lines
-            .iter()
-            .map(|line| evaluator::line_kind(black_box(line)).kind)
-            .sum()
-    },
+    library: |lines| kinds(lines, library::line_kind),
+    loaded: |lines, build| kinds(lines, |line| build.line_kind(line)),
+    evaluator: |lines| kinds(lines, |line| evaluator::line_kind(line).kind),
     same: |line| library::line_kind(line[0]) == evaluator::line_kind(line[0]).kind,
 };
 
 /// Each path normalised into the same buffer, which isn't cleared between.
-pub const NORMALISING: Passes = Passes {
+const NORMALISING: Passes = Passes {
+    function: "robots_normalise",
     parts: 1,
     library: |paths| normalise_all(paths, library::normalise),
+    loaded: |paths, build| normalise_all(paths, |path, buffer| build.normalise(path, buffer)),
     evaluator: |paths| {
         normalise_all(paths, |path, buffer| {
             evaluator::normalise(path, buffer).written
@@ -52,8 +63,10 @@ pub const NORMALISING: Passes = Passes {
 
 /// Each pattern matched against the path behind it.
 pub const MATCHING: Passes = Passes {
+    function: "robots_match_found",
     parts: 2,
     library: |records| match_all(records, library::match_found),
+    loaded: |records, build| match_all(records, |pattern, path| build.match_found(pattern, path)),
     evaluator: |records| {
         match_all(records, |pattern, path| {
             usize::from(evaluator::match_pattern(pattern, path).found)
@@ -67,6 +80,10 @@ pub const MATCHING: Passes = Passes {
             && library::match_compared(pattern, path) == expected.compared
     },
 };
+
+fn kinds(lines: &[&[u8]], kind: impl Fn(&[u8]) -> usize) -> usize {
+    lines.iter().map(|line| kind(black_box(line))).sum()
+}
 
 fn match_all(records: &[&[u8]], found: impl Fn(&[u8], &[u8]) -> usize) -> usize {
     records

@@ -46,8 +46,13 @@ fn paths(paths: &[&str]) -> Vec<String> {
     paths.iter().map(|path| path.to_string()).collect()
 }
 
+/// The files that are asked about.
+pub fn all() -> [Site; 5] {
+    [small(), large(), longest(), eleven_stars(), remarks()]
+}
+
 /// Some twenty lines.
-pub fn small() -> Site {
+fn small() -> Site {
     Site {
         name: "small site",
         file: SMALL.as_bytes().to_vec(),
@@ -63,7 +68,7 @@ pub fn small() -> Site {
 }
 
 /// Hundreds of rules for everyone, and some for each of several crawlers.
-pub fn large() -> Site {
+fn large() -> Site {
     let mut numbers = Numbers::new();
     let mut lines = vec!["User-agent: *".to_string()];
     lines.extend((0..600).map(|_| rule(&mut numbers)));
@@ -84,7 +89,7 @@ pub fn large() -> Site {
 
 /// Lines of all sorts, exactly as many octets as are answered; the last line
 /// is cut.
-pub fn longest() -> Site {
+fn longest() -> Site {
     let mut numbers = Numbers::new();
     let mut file = Vec::new();
     while file.len() < LONGEST {
@@ -102,7 +107,7 @@ pub fn longest() -> Site {
 
 /// Two hundred patterns of eleven stars each, which fail late on the longest
 /// path.
-pub fn eleven_stars() -> Site {
+fn eleven_stars() -> Site {
     let mut lines = vec!["User-agent: *\nUser-agent: ExampleBot".to_string()];
     for at in 0..200 {
         let side = ["Disallow", "Allow"][at % 2];
@@ -121,7 +126,7 @@ pub fn eleven_stars() -> Site {
 }
 
 /// Remarks, with few rules between them.
-pub fn remarks() -> Site {
+fn remarks() -> Site {
     let mut numbers = Numbers::new();
     let mut file = Vec::new();
     for line in ["User-agent: *", "Disallow: /search", "Allow: /search/help"] {

@@ -1,0 +1,152 @@
+//! A build of the library, loaded from its archive. Two builds have the same
+//! names, so they can't be linked into one program.
+
+use std::env;
+use std::ffi::{c_char, c_int, c_void, CStr, CString};
+use std::fs;
+use std::mem;
+use std::os::unix::ffi::OsStrExt;
+use std::path::{Path, PathBuf};
+use std::process::{self, Command};
+
+use crate::stop;
+
+/// The archive that this program is linked with.
+pub const LINKED: &str = concat!(
+    env!("CARGO_MANIFEST_DIR"),
+    "/../../target/staticlib/librobots.a"
+);
+
+const WANTED: &str = "give an archive that 'rt staticlib robots' made";
+const WRITABLE: &str = "set TMPDIR to a folder that can be written";
+
+/// `RTLD_NOW | RTLD_LOCAL` on Linux.
+const NOW_AND_LOCAL: c_int = 2;
+
+extern "C" {
+    fn dlopen(path: *const c_char, flags: c_int) -> *mut c_void;
+    fn dlsym(handle: *mut c_void, name: *const c_char) -> *mut c_void;
+}
+
+/// Where octets start. A length follows it.
+type Start = *const u8;
+type OfLine = unsafe extern "C" fn(Start, usize) -> usize;
+type OfPath = unsafe extern "C" fn(Start, usize, *mut u8, usize) -> usize;
+type OfMatch = unsafe extern "C" fn(Start, usize, Start, usize) -> usize;
+type OfDecision = unsafe extern "C" fn(Start, usize, Start, usize, Start, usize) -> usize;
+
+/// The functions that are measured.
+pub struct Loaded {
+    line_kind: OfLine,
+    normalise: OfPath,
+    match_found: OfMatch,
+    decide_disallow: OfDecision,
+}
+
+impl Loaded {
+    pub fn line_kind(&self, line: &[u8]) -> usize {
+        // SAFETY: pointer and length are those of a slice.
+        unsafe { (self.line_kind)(line.as_ptr(), line.len()) }
+    }
+
+    pub fn normalise(&self, path: &[u8], buffer: &mut [u8]) -> usize {
+        let (start, room) = (buffer.as_mut_ptr(), buffer.len());
+        // SAFETY: both pointers and lengths are those of slices.
+        unsafe { (self.normalise)(path.as_ptr(), path.len(), start, room) }
+    }
+
+    pub fn match_found(&self, pattern: &[u8], path: &[u8]) -> usize {
+        let (start, length) = (pattern.as_ptr(), pattern.len());
+        // SAFETY: both pointers and lengths are those of slices.
+        unsafe { (self.match_found)(start, length, path.as_ptr(), path.len()) }
+    }
+
+    pub fn decide_disallow(&self, file: &[u8], name: &[u8], path: &[u8]) -> usize {
+        let (file, file_length) = (file.as_ptr(), file.len());
+        let (name, name_length) = (name.as_ptr(), name.len());
+        let (path, path_length) = (path.as_ptr(), path.len());
+        // SAFETY: the pointers and lengths are those of slices.
+        unsafe { (self.decide_disallow)(file, file_length, name, name_length, path, path_length) }
+    }
+}
+
+/// Loads each archive, with so many octets before its code.
+pub fn load(wanted: &[(&str, usize)]) -> Vec<Loaded> {
+    let folder = env::temp_dir().join(format!("robots-benchmark-{}", process::id()));
+    if fs::create_dir(&folder).is_err() {
+        stop(&format!("no folder can be made: {WRITABLE}"));
+    }
+    let loaded: Result<_, String> = (0..)
+        .zip(wanted)
+        .map(|(at, (archive, before))| load_one(&folder.join(at.to_string()), archive, *before))
+        .collect();
+    // only now, since dlopen knows a file by its number, which another gets once it is removed
+    fs::remove_dir_all(&folder).expect("this process has made the folder");
+    loaded.unwrap_or_else(|fault| stop(&fault))
+}
+
+fn load_one(place: &Path, archive: &str, before: usize) -> Result<Loaded, String> {
+    let object = shared_object(place, archive, before)?;
+    let path = CString::new(object.as_os_str().as_bytes()).expect("a path holds no NUL");
+    // SAFETY: the path ends with NUL.
+    let handle = unsafe { dlopen(path.as_ptr(), NOW_AND_LOCAL) };
+    if handle.is_null() {
+        return Err(format!(
+            "{archive} can't be loaded: set TMPDIR to a folder from which code can be run"
+        ));
+    }
+    // SAFETY: the object is loaded, and include/robots.h gives the functions these types.
+    let found = unsafe {
+        Loaded {
+            line_kind: function(handle, c"robots_line_kind", archive)?,
+            normalise: function(handle, c"robots_normalise", archive)?,
+            match_found: function(handle, c"robots_match_found", archive)?,
+            decide_disallow: function(handle, c"robots_decide_disallow", archive)?,
+        }
+    };
+    Ok(found)
+}
+
+/// Makes a shared object of an archive.
+fn shared_object(place: &Path, archive: &str, before: usize) -> Result<PathBuf, String> {
+    // a whole path, so that gcc doesn't take it for an option
+    let whole =
+        fs::canonicalize(archive).map_err(|fault| format!("{archive}: {fault}: {WANTED}"))?;
+    let (source, object) = (place.with_extension("s"), place.with_extension("so"));
+    // the second section says that the stack holds no code
+    let skipping = format!(".text\n.skip {before}\n.section .note.GNU-stack, \"\"\n");
+    fs::write(&source, skipping).map_err(|fault| format!("{fault}: {WRITABLE}"))?;
+    let made = Command::new("gcc")
+        .args(["-shared", "-Wl,-z,defs", "-o"])
+        .args([&object, &source])
+        .arg("-Wl,--whole-archive")
+        .arg(whole)
+        .arg("-Wl,--no-whole-archive")
+        .output()
+        .map_err(|fault| format!("gcc: {fault}: install it"))?;
+    if made.status.success() {
+        Ok(object)
+    } else {
+        Err(format!("gcc makes no shared object of {archive}: {WANTED}"))
+    }
+}
+
+/// # Safety
+///
+/// The handle has to be that of a loaded object, and `Function` the type of
+/// the function of this name.
+unsafe fn function<Function>(
+    handle: *mut c_void,
+    name: &CStr,
+    archive: &str,
+) -> Result<Function, String> {
+    let found = dlsym(handle, name.as_ptr());
+    if found.is_null() {
+        return Err(format!(
+            "{archive} has no {}: {WANTED}",
+            name.to_string_lossy()
+        ));
+    }
+    // a pointer to a function is as long as any other
+    Ok(mem::transmute_copy(&found))
+}
