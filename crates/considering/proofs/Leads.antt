@@ -37,12 +37,17 @@ module _ (a b : Best) where
   unfolding better
   better-under n h k = split (ltb (a .weight) (b .weight)) (λ e. rw e k) (λ e. rw e h)
 
--- a rule that doesn't match changes nothing but the count
-pub added-past : (side : Side) (b : Best) (n : ℕ) (s : Considered) → b .weight ≡ 0
+-- the weight of the heaviest rule of a side
+abbrev pub heaviest : Considered → Side → ℕ
+heaviest s Side.Allow = s .allow .weight
+heaviest s Side.Disallow = s .disallow .weight
+
+-- a rule that is no heavier changes nothing but the count
+pub added-past : (side : Side) (b : Best) (n : ℕ) (s : Considered) → b .weight ≤ heaviest s side
     → added side b n s ≡ record { allow = s .allow; disallow = s .disallow; compared = s .compared + n }
 unfolding added
-added-past Side.Allow b n s h = rw (better-earlier (s .allow) b (omega (arith, h)))
-added-past Side.Disallow b n s h = rw (better-earlier (s .disallow) b (omega (arith, h)))
+added-past Side.Allow b n s h = rw (better-earlier (s .allow) b h)
+added-past Side.Disallow b n s h = rw (better-earlier (s .disallow) b h)
 
 -- a rule's rank, by its side and weight
 abbrev rankAs : Side → ℕ → ℕ

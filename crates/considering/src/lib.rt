@@ -5,7 +5,7 @@ ghost use mathlib.Core.Path.{_≡_};
 ghost use Prim.Native.Nat.{_+_, _<_, _^_};
 ghost use lib.ListN.{length};
 ghost use Rattle.protocol.specs.Answers.{refusedDecision};
-ghost use Rattle.considering.specs.Considering.{noBest, noneConsidered, better, added, considered, Room, decidedAs, concluded};
+ghost use Rattle.considering.specs.Considering.{noBest, noneConsidered, added, considered, Room, decidedAs, concluded};
 use protocol::Decision;
 use protocol::LineNumber;
 use protocol::Place;
@@ -50,17 +50,6 @@ pub fn none_considered() -> Considered
     }
 }
 
-// The heavier of two, and at equal weight the earlier.
-fn better(earlier: Best, later: Best) -> Best
-    ensures { λ r. ⌜ r ≡ better earlier later ⌝ }
-{
-    if earlier.weight < later.weight {
-        later
-    } else {
-        earlier
-    }
-}
-
 // One rule more, as its walk found it, with the pairs that were compared.
 fn add(c: Considered, side: Side, rule: Best, compared: usize) -> Considered
     requires { ⌜ c .compared + compared < 2 ^ 64 ⌝ }
@@ -69,8 +58,12 @@ fn add(c: Considered, side: Side, rule: Best, compared: usize) -> Considered
     let allow = c.allow;
     let disallow = c.disallow;
     let count = c.compared + compared;
-    // A rule that doesn't match: only its pairs count.
-    if rule.weight == 0 {
+    let heaviest = match side {
+        Side::Allow => allow.weight,
+        Side::Disallow => disallow.weight,
+    };
+    // A rule that doesn't match, or is no heavier: only its pairs count.
+    if rule.weight <= heaviest {
         return Considered {
             allow,
             disallow,
@@ -79,13 +72,13 @@ fn add(c: Considered, side: Side, rule: Best, compared: usize) -> Considered
     }
     match side {
         Side::Allow => Considered {
-            allow: better(allow, rule),
+            allow: rule,
             disallow,
             compared: count,
         },
         Side::Disallow => Considered {
             allow,
-            disallow: better(disallow, rule),
+            disallow: rule,
             compared: count,
         },
     }

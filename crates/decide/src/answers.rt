@@ -7,96 +7,107 @@ ghost use Rattle.protocol.specs.Entries.{entries};
 ghost use Rattle.protocol.specs.Normal.{normalPath};
 ghost use Rattle.protocol.specs.Refusals.{decideRefusal};
 ghost use Rattle.protocol.specs.Decision.{answered};
+ghost use Rattle.protocol.specs.Classes.{classTable};
 ghost use Rattle.protocol.specs.Answers.{decide};
 ghost use Rattle.passes.specs.Entries.{audienceFor};
 use protocol::Audience;
 use protocol::Decision;
 
-pub fn decide_refusal(file: &[u8], name: &[u8], path: &[u8]) -> usize
+pub fn decide_refusal(classes: &[u8; 256], file: &[u8], name: &[u8], path: &[u8]) -> usize
+    requires { ⌜ now classes ≡ classTable ⌝ }
     ensures { λ r. ⌜ r ≡ decideRefusal (now (file .entry)) (now (name .entry)) (now (path .entry)) ⌝ }
 {
     if 512000 < file.len() {
         return 1;
     }
-    if readable::is_bad_name(name) {
+    if readable::is_bad_name(classes, name) {
         return 2;
     }
     paths::path_refusal(path)
 }
 
 // Whose groups apply for a normalised path: nobody's for /robots.txt, which is always allowed.
-fn audience_for(file: &[u8], name: &[u8], path: &[u8]) -> Audience
+fn audience_for(classes: &[u8; 256], file: &[u8], name: &[u8], path: &[u8]) -> Audience
+    requires { ⌜ now classes ≡ classTable ⌝ }
     ensures { λ r. ⌜ r ≡ audienceFor (now (file .entry)) (now (name .entry)) (now (path .entry)) ⌝ }
 {
     if paths::is_robots_file(path) {
         return Audience::Nobody;
     }
-    passes::audience::choose_audience(file, name)
+    passes::audience::choose_audience(classes, file, name)
 }
 
 // The answer about a normalised path, with memory for the runs of patterns.
-fn answer_for(file: &[u8], name: &[u8], path: &[u8], scratch: &mut [u8]) -> Decision
-    requires { ⌜ (length (now file) ≤ 512000) × (length (now path) ≤ 6142) × (length (now path) ≤ length (now scratch)) ⌝ }
+fn answer_for(
+    classes: &[u8; 256],
+    file: &[u8],
+    name: &[u8],
+    path: &[u8],
+    scratch: &mut [u8],
+) -> Decision
+    requires { ⌜ (now classes ≡ classTable) × (length (now file) ≤ 512000) × (length (now path) ≤ 6142) × (length (now path) ≤ length (now scratch)) ⌝ }
     ensures { λ r. ⌜ r ≡ answered (now (file .entry)) (entries (now (file .entry))) (now (name .entry)) (now (path .entry)) ⌝ }
 {
-    let audience = audience_for(file, name, path);
-    let g = passes::gather::gather(file, audience, name, path, scratch);
+    let audience = audience_for(classes, file, name, path);
+    let g = passes::gather::gather(classes, file, audience, name, path, scratch);
     let c = g.considered;
     considering::conclude(c, g.unread)
 }
 
 // The answer where nothing is refused, with memory for the normalised path too.
 fn answer_in(
+    classes: &[u8; 256],
     file: &[u8],
     name: &[u8],
     path: &[u8],
     buffer: &mut [u8],
     scratch: &mut [u8],
 ) -> Decision
-    requires { ⌜ (length (now file) ≤ 512000) × (length (normalPath (now path)) ≤ 6142) × (length (normalPath (now path)) ≤ length (now buffer)) × (length (normalPath (now path)) ≤ length (now scratch)) ⌝ }
+    requires { ⌜ (now classes ≡ classTable) × (length (now file) ≤ 512000) × (length (normalPath (now path)) ≤ 6142) × (length (normalPath (now path)) ≤ length (now buffer)) × (length (normalPath (now path)) ≤ length (now scratch)) ⌝ }
     ensures { λ r. ⌜ r ≡ answered (now (file .entry)) (entries (now (file .entry))) (now (name .entry)) (normalPath (now (path .entry))) ⌝ }
 {
     let n = normal::write(false, path, buffer);
-    answer_for(file, name, &buffer[..n], scratch)
+    answer_for(classes, file, name, &buffer[..n], scratch)
 }
 
 // Room for a normalised path of at most 384 octets: to clear more would take longer than to decide by a small file.
-fn answer_short(file: &[u8], name: &[u8], path: &[u8]) -> Decision
-    requires { ⌜ (length (now file) ≤ 512000) × (length (normalPath (now path)) ≤ 384) ⌝ }
+fn answer_short(classes: &[u8; 256], file: &[u8], name: &[u8], path: &[u8]) -> Decision
+    requires { ⌜ (now classes ≡ classTable) × (length (now file) ≤ 512000) × (length (normalPath (now path)) ≤ 384) ⌝ }
     ensures { λ r. ⌜ r ≡ answered (now (file .entry)) (entries (now (file .entry))) (now (name .entry)) (normalPath (now (path .entry))) ⌝ }
 {
     let mut buffer = [0u8; 384];
     let mut scratch = [0u8; 384];
-    answer_in(file, name, path, &mut buffer, &mut scratch)
+    answer_in(classes, file, name, path, &mut buffer, &mut scratch)
 }
 
 // Room for the longest normalised path.
-fn answer_long(file: &[u8], name: &[u8], path: &[u8]) -> Decision
-    requires { ⌜ (length (now file) ≤ 512000) × (length (normalPath (now path)) ≤ 6142) ⌝ }
+fn answer_long(classes: &[u8; 256], file: &[u8], name: &[u8], path: &[u8]) -> Decision
+    requires { ⌜ (now classes ≡ classTable) × (length (now file) ≤ 512000) × (length (normalPath (now path)) ≤ 6142) ⌝ }
     ensures { λ r. ⌜ r ≡ answered (now (file .entry)) (entries (now (file .entry))) (now (name .entry)) (normalPath (now (path .entry))) ⌝ }
 {
     let mut buffer = [0u8; 6142];
     let mut scratch = [0u8; 6142];
-    answer_in(file, name, path, &mut buffer, &mut scratch)
+    answer_in(classes, file, name, path, &mut buffer, &mut scratch)
 }
 
 // The answer where nothing is refused.
-fn answer(file: &[u8], name: &[u8], path: &[u8]) -> Decision
-    requires { ⌜ decideRefusal (now file) (now name) (now path) ≡ 0 ⌝ }
+fn answer(classes: &[u8; 256], file: &[u8], name: &[u8], path: &[u8]) -> Decision
+    requires { ⌜ (now classes ≡ classTable) × (decideRefusal (now file) (now name) (now path) ≡ 0) ⌝ }
     ensures { λ r. ⌜ r ≡ answered (now (file .entry)) (entries (now (file .entry))) (now (name .entry)) (normalPath (now (path .entry))) ⌝ }
 {
     if path.len() <= 128 {
-        return answer_short(file, name, path);
+        return answer_short(classes, file, name, path);
     }
-    answer_long(file, name, path)
+    answer_long(classes, file, name, path)
 }
 
-pub fn decide(file: &[u8], name: &[u8], path: &[u8]) -> Decision
+pub fn decide(classes: &[u8; 256], file: &[u8], name: &[u8], path: &[u8]) -> Decision
+    requires { ⌜ now classes ≡ classTable ⌝ }
     ensures { λ r. ⌜ r ≡ decide (now (file .entry)) (now (name .entry)) (now (path .entry)) ⌝ }
 {
-    let refusal = decide_refusal(file, name, path);
+    let refusal = decide_refusal(classes, file, name, path);
     if refusal != 0 {
         return considering::refused(refusal);
     }
-    answer(file, name, path)
+    answer(classes, file, name, path)
 }

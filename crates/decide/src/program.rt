@@ -15,5 +15,6 @@ pub fn output(input: &[u8]) -> Line
     let name = output::parts::first_part(input);
     let path = output::parts::first_part(rest);
     let file = output::parts::behind(rest);
-    output::answer_line(crate::answers::decide(file, name, path))
+    let classes = octets::classes();
+    output::answer_line(crate::answers::decide(&classes, file, name, path))
 }

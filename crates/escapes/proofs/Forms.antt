@@ -10,11 +10,12 @@ use lib.ListN.{length, drop, getD, length-drop}
 use borrow.Author.Tests.{ne-eqb, ltb-true, ltb-false, not-true, not-false}
 use Rattle.lists.proofs.Bools.{split, and-left, and-right}
 use Rattle.lists.proofs.Scans.{drop-one}
-use Rattle.protocol.specs.Octets.{is, unreserved, hex, upperCase}
+use Rattle.protocol.specs.Octets.{is, unreserved, hex}
 use Rattle.protocol.specs.Normal.{encoded, meant, escape, isEscape, escapeAt, isEncoded, plain, replacement}
 use Rattle.escapes.specs.declared.Replacement.{Replacement}
 use Rattle.escapes.specs.declared.Measure.{Measure}
 use Rattle.escapes.specs.Escapes.{kept, octetsOf, Encoded, Escaped, ChangedAt, ReplacementAt, MeasureAt}
+use Rattle.escapes.proofs.Sorts.{escape-encoded}
 
 -- only "%" begins an escape
 pub no-percent : (x : ℕ) (l : List ℕ) → (x ≡ code "%" → ⊥) → isEscape x l ≡ false
@@ -89,11 +90,13 @@ module _ (s : List ℕ) (at : ℕ) (e : isEscape (getD s at 0) (drop (at + 1) s)
 pub changed-alone : (x : ℕ) (l : List ℕ) (p : Replacement) → isEscape x l ≡ false → Encoded x p → ChangedAt x l p
 changed-alone x l p e h = rw e h
 
--- an escape that isn't decoded
-pub escape-kept : (d e high low : ℕ) → unreserved (meant d e) ≡ false → high ≡ upperCase d → low ≡ upperCase e
-    → Escaped d e (record { first = code "%"; second = high; third = low; single = false; taken = 3 })
-unfolding escape
-escape-kept d e high low u h k = rw (u, h, k) (record { octets = refl; taken = refl })
+-- the octet meant, encoded, in place of an escape that isn't decoded
+pub escape-kept : (d e : ℕ) (p : Replacement) → hex d ≡ true → hex e ≡ true → unreserved (meant d e) ≡ false → Encoded (meant d e) p
+    → Escaped d e (record { first = p .first; second = p .second; third = p .third; single = false; taken = 3 })
+unfolding encoded
+escape-kept d e p h k u s =
+    let three = split (p .single) (λ t. absurd (omega (arith, rw t at (ap length (s .octets))))) (λ t. rw t at (s .octets)) in
+    rw (escape-encoded d e h k u) (record { octets = three; taken = refl })
 
 -- a replacement measured
 abbrev pub measureOf : Replacement → Measure

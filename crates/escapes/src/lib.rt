@@ -6,8 +6,10 @@ ghost use Prim.Native.Nat.{_+_, _≤_, _<_};
 ghost use lib.ListN.{length, drop, getD};
 ghost use lib.Seq.{sets};
 ghost use Rattle.protocol.specs.Octets.{hex};
+ghost use Rattle.protocol.specs.Classes.{classTable};
 ghost use Rattle.protocol.specs.Normal.{meant, escape, isEscape};
 ghost use Rattle.escapes.specs.Escapes.{kept, octetsOf, Encoded, Escaped, ChangedAt, MeasureAt};
+use protocol::Sort;
 
 // What stands for one octet of a text, or for one escape: `first` alone or all three, and how many octets of the text it takes.
 pub struct Replacement {
@@ -54,20 +56,20 @@ pub fn is_kept(stars: bool, x: u8) -> bool
 }
 
 // The octet that two hex digits mean.
-fn octet_meant(d: u8, e: u8) -> u8
-    requires { ⌜ (hex d ≡ true) × (hex e ≡ true) ⌝ }
+fn octet_meant(classes: &[u8; 256], d: u8, e: u8) -> u8
+    requires { ⌜ (now classes ≡ classTable) × (hex d ≡ true) × (hex e ≡ true) ⌝ }
     ensures { λ r. ⌜ r ≡ meant d e ⌝ }
 {
-    octets::hex_value(d) * 16 + octets::hex_value(e)
+    octets::class_of(classes, d) * 16 + octets::class_of(classes, e)
 }
 
 // An escape, by its two hex digits.
-fn escape_of(d: u8, e: u8) -> Replacement
-    requires { ⌜ (hex d ≡ true) × (hex e ≡ true) ⌝ }
+fn escape_of(classes: &[u8; 256], d: u8, e: u8) -> Replacement
+    requires { ⌜ (now classes ≡ classTable) × (hex d ≡ true) × (hex e ≡ true) ⌝ }
     ensures { λ r. ⌜ Escaped d e r ⌝ }
 {
-    let x = octet_meant(d, e);
-    if octets::is_unreserved(x) {
+    let x = octet_meant(classes, d, e);
+    if octets::is_of(classes, Sort::Unreserved, x) {
         return Replacement {
             first: x,
             second: 0,
@@ -76,20 +78,19 @@ fn escape_of(d: u8, e: u8) -> Replacement
             taken: 3,
         };
     }
-    let high = octets::upper_case(d);
-    let low = octets::upper_case(e);
+    let p = encode(x);
     Replacement {
-        first: b'%',
-        second: high,
-        third: low,
+        first: p.first,
+        second: p.second,
+        third: p.third,
         single: false,
         taken: 3,
     }
 }
 
 // "%" and two hex digits stand at a place.
-fn is_escape_at(s: &[u8], at: usize) -> bool
-    requires { ⌜ at < length (now s) ⌝ }
+fn is_escape_at(classes: &[u8; 256], s: &[u8], at: usize) -> bool
+    requires { ⌜ (now classes ≡ classTable) × (at < length (now s)) ⌝ }
     ensures { λ r. ⌜ r ≡ isEscape (getD (now (s .entry)) at 0) (drop (at + 1) (now (s .entry))) ⌝ }
 {
     if s[at] != b'%' {
@@ -98,19 +99,19 @@ fn is_escape_at(s: &[u8], at: usize) -> bool
     if s.len() - at < 3 {
         return false;
     }
-    if !octets::is_hex(s[at + 1]) {
+    if !octets::is_of(classes, Sort::Hex, s[at + 1]) {
         return false;
     }
-    octets::is_hex(s[at + 2])
+    octets::is_of(classes, Sort::Hex, s[at + 2])
 }
 
 // What stands for an octet that doesn't stay as it is, and for the digits of its escape.
-pub fn changed_at(s: &[u8], at: usize) -> Replacement
-    requires { ⌜ at < length (now s) ⌝ }
+pub fn changed_at(classes: &[u8; 256], s: &[u8], at: usize) -> Replacement
+    requires { ⌜ (now classes ≡ classTable) × (at < length (now s)) ⌝ }
     ensures { λ r. ⌜ ChangedAt (getD (now (s .entry)) at 0) (drop (at + 1) (now (s .entry))) r ⌝ }
 {
-    if is_escape_at(s, at) {
-        return escape_of(s[at + 1], s[at + 2]);
+    if is_escape_at(classes, s, at) {
+        return escape_of(classes, s[at + 1], s[at + 2]);
     }
     encode(s[at])
 }
@@ -130,11 +131,11 @@ pub fn put(p: Replacement, out: &mut [u8], at: usize) -> usize
 }
 
 // How many octets an escape comes to, by its two hex digits.
-fn escape_size(d: u8, e: u8) -> usize
-    requires { ⌜ (hex d ≡ true) × (hex e ≡ true) ⌝ }
+fn escape_size(classes: &[u8; 256], d: u8, e: u8) -> usize
+    requires { ⌜ (now classes ≡ classTable) × (hex d ≡ true) × (hex e ≡ true) ⌝ }
     ensures { λ r. ⌜ r ≡ length (escape d e) ⌝ }
 {
-    if octets::is_unreserved(octet_meant(d, e)) {
+    if octets::is_of(classes, Sort::Unreserved, octet_meant(classes, d, e)) {
         1
     } else {
         3
@@ -142,16 +143,16 @@ fn escape_size(d: u8, e: u8) -> usize
 }
 
 // How much stands for the octet at a place, and for the digits of its escape.
-pub fn measure_at(stars: bool, s: &[u8], at: usize) -> Measure
-    requires { ⌜ at < length (now s) ⌝ }
+pub fn measure_at(classes: &[u8; 256], stars: bool, s: &[u8], at: usize) -> Measure
+    requires { ⌜ (now classes ≡ classTable) × (at < length (now s)) ⌝ }
     ensures { λ r. ⌜ MeasureAt stars (getD (now (s .entry)) at 0) (drop (at + 1) (now (s .entry))) r ⌝ }
 {
     if is_kept(stars, s[at]) {
         return Measure { size: 1, taken: 1 };
     }
-    if is_escape_at(s, at) {
+    if is_escape_at(classes, s, at) {
         return Measure {
-            size: escape_size(s[at + 1], s[at + 2]),
+            size: escape_size(classes, s[at + 1], s[at + 2]),
             taken: 3,
         };
     }

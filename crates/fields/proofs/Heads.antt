@@ -26,8 +26,9 @@ use Rattle.text.proofs.Comparing.{case-short}
 use Rattle.text.proofs.Trims.{trim-fits}
 use Rattle.fields.specs.declared.Field.{Field}
 use Rattle.fields.specs.declared.Head.{Head}
-use Rattle.fields.specs.Fields.{fieldOf, sideOf, valueStart, headAt, headOf, stop, valueAt}
-use Rattle.fields.specs.Names.{nameOf, nameLength, beginsName, fieldNamed, fieldAt}
+use Rattle.protocol.specs.Classes.{stop}
+use Rattle.fields.specs.Fields.{fieldOf, sideOf, valueStart, headAt, headOf, valueAt}
+use Rattle.fields.specs.Names.{nameOf, nameLength, beginsName, fieldAt}
 use Rattle.fields.proofs.Field as F
 use Rattle.lists.proofs.Cuts.{upTo-first, upTo-past}
 use Rattle.fields.proofs.Naming.{begun, begun-place, begun-told, not-first, one-name}
@@ -38,9 +39,13 @@ use Rattle.fields.proofs.Sorts.{colon-solid, plain}
 abbrev found : Bool → Bool → Bool → Field
 found a b c = if a then Field.Agent else if b then Field.Allow else if c then Field.Disallow else Field.Other
 
+-- the same from the last to the first, as the code asks
+abbrev chosen : Bool → Bool → Bool → Field
+chosen a b c = if c then Field.Disallow else if b then Field.Allow else if a then Field.Agent else Field.Other
+
 -- where at most one is so, and a further test is passed by it or not
 found-kept : (g : Field → Bool) (a b c : Bool) → (a ≡ true → b ≡ false) → (a ≡ true → c ≡ false) → (b ≡ true → c ≡ false)
-    → found (a && g Field.Agent) (b && g Field.Allow) (c && g Field.Disallow) ≡ (if g (found a b c) then found a b c else Field.Other)
+    → found (a && g Field.Agent) (b && g Field.Allow) (c && g Field.Disallow) ≡ (if g (chosen a b c) then chosen a b c else Field.Other)
 found-kept g true true c h i j = absurd (true≢false (h refl))
 found-kept g true false true h i j = absurd (true≢false (i refl))
 found-kept g true false false h i j = refl
@@ -78,16 +83,12 @@ module _ (t : List ℕ) where
   field-begins : beginsName (fieldAt t) t ≡ true
   unfolding fieldAt
   field-begins =
-      split (beginsName Field.Agent t) (λ a. rw a a)
-      (λ a.
-      split (beginsName Field.Allow t) (λ b. rw (a, b) b)
-      (λ b. split (beginsName Field.Disallow t) (λ c. rw (a, b, c) c) (λ c. rw (a, b, c) any-begins)))
+      split (beginsName Field.Disallow t) (λ c. rw c c)
+      (λ c.
+      split (beginsName Field.Allow t) (λ b. rw (c, b) b)
+      (λ b. split (beginsName Field.Agent t) (λ a. rw (c, b, a) a) (λ a. rw (c, b, a) any-begins)))
 
-  -- by the first octet
-  field-by : (a b c : Bool) → beginsName Field.Agent t ≡ a → beginsName Field.Allow t ≡ b → beginsName Field.Disallow t ≡ c → found a b c ≡ fieldAt t
-  unfolding fieldAt
-  field-by a b c p q s = rw (p, q, s)
-
+  -- it begins with none of them, by its first octet
   pub no-agent : (lowerCase (getD t 0 0) ≡ 117 → ⊥) → beginsName Field.Agent t ≡ false
   unfolding octets lowerCase upper
   no-agent = not-first 117 (octets "ser-agent") t
@@ -100,25 +101,9 @@ module _ (t : List ℕ) where
   unfolding octets lowerCase upper
   no-disallow = not-first 100 (octets "isallow") t
 
--- by the octet x that a text begins with, in lower case
-module _ (t : List ℕ) (x : ℕ) (e : x ≡ lowerCase (getD t 0 0)) where
-  pub field-d : x ≡ 100 → fieldNamed Field.Disallow t ≡ fieldAt t
-  field-d d = field-by t false false (beginsName Field.Disallow t) (no-agent t (λ k. omega (arith, e, d, k))) (no-allow t (λ k. omega (arith, e, d, k))) refl
-
-  pub field-a : x ≡ 97 → fieldNamed Field.Allow t ≡ fieldAt t
-  field-a d = field-by t false (beginsName Field.Allow t) false (no-agent t (λ k. omega (arith, e, d, k))) refl (no-disallow t (λ k. omega (arith, e, d, k)))
-
-  pub field-u : x ≡ 117 → fieldNamed Field.Agent t ≡ fieldAt t
-  field-u d = field-by t (beginsName Field.Agent t) false false refl (no-allow t (λ k. omega (arith, e, d, k))) (no-disallow t (λ k. omega (arith, e, d, k)))
-
-  pub field-no : (x ≡ 100 → ⊥) → (x ≡ 97 → ⊥) → (x ≡ 117 → ⊥) → Field.Other ≡ fieldAt t
-  field-no p q s =
-      field-by t false false false (no-agent t (λ k. s (e ∙ k))) (no-allow t (λ k. q (e ∙ k))) (no-disallow t (λ k. p (e ∙ k)))
-
-pub field-none : (t : List ℕ) → length t ≡ 0 → Field.Other ≡ fieldAt t
-unfolding fieldAt octets sameIgnoringCase same
-field-none [] h = refl
-field-none (x ∷ t) h = absurd (omega arith)
+  pub field-no : (lowerCase (getD t 0 0) ≡ 100 → ⊥) → (lowerCase (getD t 0 0) ≡ 97 → ⊥) → (lowerCase (getD t 0 0) ≡ 117 → ⊥) → Field.Other ≡ fieldAt t
+  unfolding fieldAt
+  field-no p q s = rw (no-disallow p, no-allow q, no-agent s)
 
 name-fits : (w t : List ℕ) → sameIgnoringCase (take (length w) t) w ≡ true → length w ≤ length t
 name-fits w t h =

@@ -12,7 +12,7 @@ use Rattle.lists.specs.Lists.{all, any, upTo, from, same}
 use Rattle.lists.proofs.Bools.{split, and-left, and-right}
 use Rattle.protocol.specs.Octets.{is, blank, lowerCase}
 use Rattle.protocol.specs.Text.{begins, sameIgnoringCase, solid, lead, unlessAtEnd, trimEnd, trim}
-use Rattle.fields.specs.Fields.{stop}
+use Rattle.protocol.specs.Classes.{stop}
 use Rattle.lists.proofs.Cuts.{upTo-past, any-past}
 use Rattle.fields.proofs.Ends.{solid-stays}
 use Rattle.fields.proofs.Sorts.{stop-solid, colon-solid, colon-on, plain, plain-same}

@@ -18,7 +18,8 @@ use Rattle.protocol.specs.Octets.{is, lineEnd}
 use Rattle.protocol.specs.Text.{solid, lead, trimEnd, trim}
 use Rattle.protocol.specs.Lines.{placeAt, placeAfter, lineText}
 use Rattle.protocol.specs.Kinds.{agentAt, patternAt, fieldKind, recordKind, restKind, uncommented, kindOf}
-use Rattle.fields.specs.Fields.{valueStart, stop, valueAt}
+use Rattle.protocol.specs.Classes.{stop}
+use Rattle.fields.specs.Fields.{valueStart, valueAt}
 use Rattle.lists.proofs.Cuts.{from-none, upTo-either, upTo-before, past-before, any-before, upTo-first, upTo-past, from-past, any-past}
 use Rattle.fields.proofs.Ends.{any-end, upTo-end, past-end, trim-end, trim-from}
 use Rattle.fields.proofs.Sorts.{stop-solid, colon-solid}

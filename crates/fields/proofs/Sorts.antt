@@ -9,7 +9,7 @@ use Rattle.lists.proofs.Bools.{split}
 use Rattle.protocol.specs.Octets.{is, blank, lineEnd, lowerCase}
 use Rattle.protocol.specs.Text.{solid}
 use Rattle.protocol.proofs.Texts.{either-case}
-use Rattle.fields.specs.Fields.{stop, delimiter}
+use Rattle.protocol.specs.Classes.{stop}
 
 pub stop-solid : (x : ℕ) → stop x ≡ true → solid x ≡ true
 unfolding stop lineEnd blank
@@ -35,10 +35,6 @@ past-stop x h = rw (ne-eqb x 35 (λ e. omega arith), ne-eqb x 13 (λ e. omega ar
 pub past-blank : (x : ℕ) → 32 < x → blank x ≡ false
 unfolding blank
 past-blank x h = rw (ne-eqb x 32 (λ e. omega arith), ne-eqb x 9 (λ e. omega arith))
-
-pub past-delimiter : (x : ℕ) → 58 < x → delimiter x ≡ false
-unfolding delimiter
-past-delimiter x h = rw (ne-eqb x 58 (λ e. omega arith), past-stop x (omega arith))
 
 -- an octet of a field's name
 abbrev pub plain : ℕ → Bool

@@ -1,17 +1,18 @@
 -- The field of a line, and where its value stands, read where the line stands in a file: l is the rest of the file from the line's start on.
 -- Assumes nothing.
 use Prim.Native.Nat.{ℕ, _+_}
-use mathlib.Core.Bool.{Bool, true, _||_}
+use mathlib.Core.Bool.{Bool, true}
 use mathlib.Core.List.{List, [], _∷_}
 use lib.ListN.{length, drop}
 use Rattle.lists.specs.Lists.{upTo}
 use Rattle.protocol.specs.declared.Place.{Place}
 use Rattle.protocol.specs.declared.Side.{Side}
 use Rattle.protocol.specs.declared.Kind.{Kind}
-use Rattle.protocol.specs.Octets.{is, lineEnd}
+use Rattle.protocol.specs.Octets.{is}
 use Rattle.protocol.specs.Text.{lead, trimEnd}
 use Rattle.protocol.specs.Lines.{placeAt, lineText}
 use Rattle.protocol.specs.Kinds.{kindOf}
+use Rattle.protocol.specs.Classes.{stop}
 use Rattle.fields.specs.declared.Field.{Field}
 use Rattle.fields.specs.declared.Head.{Head}
 
@@ -44,14 +45,6 @@ headAt Field.Other p = record { field = Field.Other; value = placeAt 0 }
 
 unfoldable pub headOf : List ℕ → Head
 headOf l = headAt (fieldOf (kindOf (lineText l))) (valueStart l)
-
--- "#", CR or LF: the end of what is examined of a line
-unfoldable pub stop : ℕ → Bool
-stop x = is "#" x || lineEnd x
-
--- a colon, or the end of what is examined
-unfoldable pub delimiter : ℕ → Bool
-delimiter x = is ":" x || stop x
 
 -- nothing is left that is examined
 abbrev pub ended : List ℕ → Bool

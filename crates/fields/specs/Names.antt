@@ -30,13 +30,10 @@ rowOf Field.Other = 0
 abbrev pub beginsName : Field → List ℕ → Bool
 beginsName f l = isField (nameOf f) (take (nameLength f) l)
 
--- the field, where a text begins with its name, and else the other one
-abbrev pub fieldNamed : Field → List ℕ → Field
-fieldNamed f l = if beginsName f l then f else Field.Other
-
+-- a text begins with one of them at most
 unfoldable pub fieldAt : List ℕ → Field
 fieldAt l =
-    if beginsName Field.Agent l then Field.Agent
+    if beginsName Field.Disallow l then Field.Disallow
     else if beginsName Field.Allow l then Field.Allow
-    else if beginsName Field.Disallow l then Field.Disallow
+    else if beginsName Field.Agent l then Field.Agent
     else Field.Other

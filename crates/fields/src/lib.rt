@@ -1,15 +1,14 @@
 // The field of a line, and where its value begins.
 
 ghost use mathlib.Core.Path.{_≡_};
-ghost use Prim.Native.Nat.{_<_};
-ghost use lib.ListN.{length, drop, getD};
+ghost use lib.ListN.{length, drop};
 ghost use Rattle.lists.specs.Lists.{upTo};
-ghost use Rattle.protocol.specs.Octets.{lowerCase};
 ghost use Rattle.protocol.specs.Text.{begins};
 ghost use Rattle.protocol.specs.Lines.{placeAt};
+ghost use Rattle.protocol.specs.Classes.{classTable};
 ghost use Rattle.text.specs.Parts.{equals};
 ghost use Rattle.fields.specs.Fields.{headOf};
-ghost use Rattle.fields.specs.Names.{nameLength, rowOf, beginsName, fieldNamed, fieldAt};
+ghost use Rattle.fields.specs.Names.{nameLength, rowOf, beginsName, fieldAt};
 use protocol::FIELDS;
 use protocol::Place;
 
@@ -59,50 +58,29 @@ fn name_length(field: Field) -> usize
 }
 
 // A text begins with the field's name, ASCII case ignored.
-fn begins_name(s: &[u8], field: Field) -> bool
+fn begins_name(classes: &[u8; 256], s: &[u8], field: Field) -> bool
+    requires { ⌜ now classes ≡ classTable ⌝ }
     ensures { λ r. ⌜ r ≡ beginsName field (now (s .entry)) ⌝ }
 {
     let row = row_of(field);
     let size = name_length(field);
     let name = FIELDS[row];
-    text::same::begins_with(s, &name[..size])
+    text::same::begins_with(classes, s, &name[..size])
 }
 
-// The field, where a text begins with its name, and else the other one.
-fn field_named(s: &[u8], field: Field) -> Field
-    ensures { λ r. ⌜ r ≡ fieldNamed field (now (s .entry)) ⌝ }
-{
-    if begins_name(s, field) {
-        field
-    } else {
-        Field::Other
-    }
-}
-
-// The first octet of a text, in lower case.
-fn initial(s: &[u8]) -> u8
-    requires { ⌜ 0 < length (now s) ⌝ }
-    ensures { λ r. ⌜ r ≡ lowerCase (getD (now (s .entry)) 0 0) ⌝ }
-{
-    octets::lower_case(s[0])
-}
-
-// The field whose name a text begins with, ASCII case ignored. The first octet tells which name it can be.
-fn field_at(s: &[u8]) -> Field
+// The field whose name a text begins with, ASCII case ignored.
+fn field_at(classes: &[u8; 256], s: &[u8]) -> Field
+    requires { ⌜ now classes ≡ classTable ⌝ }
     ensures { λ r. ⌜ r ≡ fieldAt (now (s .entry)) ⌝ }
 {
-    if s.len() == 0 {
-        return Field::Other;
+    if begins_name(classes, s, Field::Disallow) {
+        return Field::Disallow;
     }
-    let first = initial(s);
-    if first == FIELDS[2][0] {
-        return field_named(s, Field::Disallow);
+    if begins_name(classes, s, Field::Allow) {
+        return Field::Allow;
     }
-    if first == FIELDS[1][0] {
-        return field_named(s, Field::Allow);
-    }
-    if first == FIELDS[0][0] {
-        return field_named(s, Field::Agent);
+    if begins_name(classes, s, Field::Agent) {
+        return Field::Agent;
     }
     Field::Other
 }
@@ -128,21 +106,22 @@ fn no_head() -> Head
 }
 
 // The head of the line that a text begins with.
-pub fn head_of(r: &[u8]) -> Head
+pub fn head_of(classes: &[u8; 256], r: &[u8]) -> Head
+    requires { ⌜ now classes ≡ classTable ⌝ }
     ensures { λ h. ⌜ h ≡ headOf (now (r .entry)) ⌝ }
 {
-    let start = text::lead(r);
-    let field = field_at(&r[start..]);
+    let start = text::lead(classes, r);
+    let field = field_at(classes, &r[start..]);
     if let Field::Other = field {
         return no_head();
     }
     let after = start + name_length(field);
-    let colon = after + text::lead(&r[after..]);
+    let colon = after + text::lead(classes, &r[after..]);
     if !colon_at(r, Place { offset: colon }) {
         return no_head();
     }
     let behind = colon + 1;
-    let value = behind + text::lead(&r[behind..]);
+    let value = behind + text::lead(classes, &r[behind..]);
     Head {
         field,
         value: Place { offset: value },

@@ -6,6 +6,7 @@ ghost use mathlib.Core.Bool.{_&&_, _||_};
 ghost use Prim.Native.Nat.{_+_, _<_, _^_};
 ghost use Rattle.lists.specs.Choice.{oneIf};
 ghost use Rattle.protocol.specs.Readable.{everyone, names};
+ghost use Rattle.protocol.specs.Classes.{classTable};
 ghost use Rattle.hearing.specs.Heard.{nothingHeard, whom, addressed, afterAgent, afterRule};
 use protocol::Audience;
 
@@ -28,33 +29,36 @@ pub fn nothing_heard() -> Hearing
 }
 
 // An agent's value names "*".
-fn names_everyone(value: &[u8]) -> bool
+fn names_everyone(classes: &[u8; 256], value: &[u8]) -> bool
+    requires { ⌜ now classes ≡ classTable ⌝ }
     ensures { λ r. ⌜ r ≡ names (now (value .entry)) everyone ⌝ }
 {
     let everyone = [b'*'];
-    readable::names(value, &everyone)
+    readable::names(classes, value, &everyone)
 }
 
 // Whom an agent's value names: the crawler, "*", or neither.
-pub fn addressed(name: &[u8], value: &[u8]) -> Audience
+pub fn addressed(classes: &[u8; 256], name: &[u8], value: &[u8]) -> Audience
+    requires { ⌜ now classes ≡ classTable ⌝ }
     ensures { λ r. ⌜ r ≡ addressed (now (name .entry)) (now (value .entry)) ⌝ }
 {
-    if readable::names(value, name) {
+    if readable::names(classes, value, name) {
         return Audience::Crawler;
     }
-    if names_everyone(value) {
+    if names_everyone(classes, value) {
         return Audience::Everyone;
     }
     Audience::Nobody
 }
 
 // An agent's value names those whose groups apply.
-fn is_addressed(audience: Audience, name: &[u8], value: &[u8]) -> bool
+fn is_addressed(classes: &[u8; 256], audience: Audience, name: &[u8], value: &[u8]) -> bool
+    requires { ⌜ now classes ≡ classTable ⌝ }
     ensures { λ r. ⌜ r ≡ names (now (value .entry)) (whom audience (now (name .entry))) ⌝ }
 {
     match audience {
-        Audience::Crawler => readable::names(value, name),
-        Audience::Everyone => names_everyone(value),
+        Audience::Crawler => readable::names(classes, value, name),
+        Audience::Everyone => names_everyone(classes, value),
         Audience::Nobody => false,
     }
 }
@@ -67,13 +71,20 @@ fn joins_applying(h: Hearing) -> bool
 }
 
 // The group that an agent line starts or joins applies.
-fn group_applies(h: Hearing, audience: Audience, name: &[u8], value: &[u8]) -> bool
+fn group_applies(
+    classes: &[u8; 256],
+    h: Hearing,
+    audience: Audience,
+    name: &[u8],
+    value: &[u8],
+) -> bool
+    requires { ⌜ now classes ≡ classTable ⌝ }
     ensures { λ r. ⌜ r ≡ ((h .joins && h .applies) || names (now (value .entry)) (whom audience (now (name .entry)))) ⌝ }
 {
     if joins_applying(h) {
         return true;
     }
-    is_addressed(audience, name, value)
+    is_addressed(classes, audience, name, value)
 }
 
 // One line more in the unread count, where it is unreadable.
@@ -86,16 +97,17 @@ fn unread_after(unread: usize, unreadable: bool) -> usize
 
 // After an agent line with that value, which is unreadable or not.
 pub fn hear_agent(
+    classes: &[u8; 256],
     h: Hearing,
     audience: Audience,
     name: &[u8],
     value: &[u8],
     unreadable: bool,
 ) -> Hearing
-    requires { ⌜ h .unread + 1 < 2 ^ 64 ⌝ }
+    requires { ⌜ (now classes ≡ classTable) × (h .unread + 1 < 2 ^ 64) ⌝ }
     ensures { λ r. ⌜ r ≡ afterAgent (whom audience (now (name .entry))) (now (value .entry)) unreadable h ⌝ }
 {
-    let applies = group_applies(h, audience, name, value);
+    let applies = group_applies(classes, h, audience, name, value);
     let unread = unread_after(h.unread, unreadable);
     Hearing {
         applies,

@@ -1,15 +1,14 @@
 -- The answer on one line, by its refusal. Assumes nothing.
-use Prim.Native.Nat.{ℕ, _≤_, _<_}
+use Prim.Native.Nat.{ℕ, _≤_}
 use mathlib.Core.Path.{_≡_, sym, _∙_}
-use mathlib.Core.Bool.{true}
+use mathlib.Core.Bool.{true, false}
 use mathlib.Core.List.{List, [], _∷_}
 use native.Mathlib.Omega.{arith}
 use lib.Dec.{ltb}
 use lib.ListN.{length}
 use borrow.Author.Tests.{ltb-true, ltb-false}
-use Rattle.lists.specs.Lists.{any, upTo}
+use Rattle.lists.specs.Lists.{any}
 use Rattle.lists.proofs.Bools.{split}
-use Rattle.lists.proofs.Scans.{any-some, any-none}
 use Rattle.protocol.specs.declared.Kind.{Kind}
 use Rattle.protocol.specs.declared.LineAnswer.{LineAnswer}
 use Rattle.protocol.specs.Octets.{lineEnd}
@@ -22,17 +21,13 @@ use Rattle.protocol.proofs.Limits.{not-too-long, line-too-long}
 use Rattle.lists.proofs.Cuts.{upTo-none}
 
 module _ (l : List ℕ) (h : length l ≤ 512_000) where
-  some-ending : any lineEnd l ≡ true → lineRefusal l ≡ 9
+  pub several-lines : any lineEnd l ≡ true → lineRefusal l ≡ 9
   unfolding lineRefusal refusal
-  some-ending e = not-too-long l (severalLines l ∷ []) h ∙ rw e
+  several-lines e = not-too-long l (severalLines l ∷ []) h ∙ rw e
 
-  -- a line ending comes before the line's end
-  pub several-lines : length (upTo lineEnd l) < length l → lineRefusal l ≡ 9
-  several-lines k = some-ending (any-some lineEnd l k)
-
-  pub one-line : length l ≤ length (upTo lineEnd l) → lineRefusal l ≡ 0
+  pub one-line : any lineEnd l ≡ false → lineRefusal l ≡ 0
   unfolding lineRefusal refusal
-  one-line k = not-too-long l (severalLines l ∷ []) h ∙ rw (any-none lineEnd l k)
+  one-line e = not-too-long l (severalLines l ∷ []) h ∙ rw e
 
 pub refused-answer : (l : List ℕ) (n : ℕ) → n ≡ lineRefusal l → (n ≡ 0 → ⊥) → LineAnswer.Refused n ≡ lineAnswer l
 refused-answer l n e h = rw e (sym (line-refused l (λ z. h (e ∙ z))))
@@ -45,7 +40,7 @@ whole-line l z =
     (λ e.
     absurd
     (split (ltb 512_000 (length l)) (λ k. omega (arith, z, line-too-long l (ltb-true 512_000 (length l) k)))
-    (λ k. omega (arith, z, some-ending l (ltb-false 512_000 (length l) k) e))))
+    (λ k. omega (arith, z, several-lines l (ltb-false 512_000 (length l) k) e))))
     (λ e. e))
 
 pub kind-answer : (l : List ℕ) (k : Kind) → 0 ≡ lineRefusal l → k ≡ kindOf (lineText l) → LineAnswer.Kind k ≡ lineAnswer l

@@ -17,7 +17,8 @@ use Rattle.protocol.specs.Text.{trimEnd}
 use Rattle.protocol.specs.Readable.{wellFormed, patternStart, readablePattern}
 use Rattle.readable.specs.Due.{ordinary, unusual}
 use Rattle.readable.proofs.Characters.{well-formed-front}
-use Rattle.fields.specs.Fields.{stop, ended, valueAt}
+use Rattle.protocol.specs.Classes.{stop}
+use Rattle.fields.specs.Fields.{ended, valueAt}
 use Rattle.lists.proofs.Cuts.{upTo-first}
 use Rattle.fields.proofs.Ends.{solid-stays, end-read, end-fits}
 use Rattle.fields.proofs.Sorts.{past-stop, past-blank}

@@ -15,7 +15,8 @@ use Rattle.protocol.specs.Text.{begins, solid, lead, trimEnd, trim}
 use Rattle.protocol.specs.Lines.{lineText}
 use Rattle.protocol.specs.Kinds.{kindOf}
 use Rattle.fields.specs.declared.Field.{Field}
-use Rattle.fields.specs.Fields.{fieldOf, stop, delimiter, ended}
+use Rattle.protocol.specs.Classes.{stop, delimiter}
+use Rattle.fields.specs.Fields.{fieldOf, ended}
 use Rattle.lists.proofs.Cuts.{upTo-none, upTo-either, upTo-past, any-past}
 use Rattle.fields.proofs.Ends.{end-empty}
 use Rattle.fields.proofs.Reading.{kind-idle}

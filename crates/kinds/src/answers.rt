@@ -2,28 +2,29 @@
 
 ghost use mathlib.Core.Path.{_≡_};
 ghost use Rattle.protocol.specs.Answers.{lineAnswer, refusalOf};
+ghost use Rattle.protocol.specs.Classes.{classTable};
 use protocol::LineAnswer;
-use protocol::Place;
 
-pub fn line_refusal(line: &[u8]) -> usize
+pub fn line_refusal(classes: &[u8; 256], line: &[u8]) -> usize
+    requires { ⌜ now classes ≡ classTable ⌝ }
     ensures { λ r. ⌜ r ≡ refusalOf (lineAnswer (now (line .entry))) ⌝ }
 {
     if 512000 < line.len() {
         return 1;
     }
-    let end = text::line_end(line, Place { offset: 0 });
-    if end.offset < line.len() {
+    if text::holds_line_end(classes, line) {
         return 9;
     }
     0
 }
 
-pub fn line_answer(line: &[u8]) -> LineAnswer
+pub fn line_answer(classes: &[u8; 256], line: &[u8]) -> LineAnswer
+    requires { ⌜ now classes ≡ classTable ⌝ }
     ensures { λ r. ⌜ r ≡ lineAnswer (now (line .entry)) ⌝ }
 {
-    let refusal = line_refusal(line);
+    let refusal = line_refusal(classes, line);
     if refusal != 0 {
         return LineAnswer::Refused(refusal);
     }
-    LineAnswer::Kind(crate::line::kind_of(line))
+    LineAnswer::Kind(crate::line::kind_of(classes, line))
 }

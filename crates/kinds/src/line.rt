@@ -8,8 +8,9 @@ ghost use Rattle.protocol.specs.Text.{trimEnd};
 ghost use Rattle.protocol.specs.Lines.{lineText};
 ghost use Rattle.protocol.specs.Readable.{readablePattern};
 ghost use Rattle.protocol.specs.Kinds.{agentAt, patternAt, kindOf};
+ghost use Rattle.protocol.specs.Classes.{classTable, stop};
 ghost use Rattle.fields.specs.declared.Field.{Field};
-ghost use Rattle.fields.specs.Fields.{fieldOf, sideOf, headOf, stop, delimiter, ended, valueAt};
+ghost use Rattle.fields.specs.Fields.{fieldOf, sideOf, headOf, ended, valueAt};
 use fields::Field;
 use fields::Head;
 use protocol::Agent;
@@ -17,15 +18,17 @@ use protocol::Kind;
 use protocol::Pattern;
 use protocol::Place;
 use protocol::Side;
+use protocol::Sort;
 
 // The agent of a value, which stands at that place of the line.
-fn agent_at(place: Place, value: &[u8]) -> Agent
+fn agent_at(classes: &[u8; 256], place: Place, value: &[u8]) -> Agent
+    requires { ⌜ now classes ≡ classTable ⌝ }
     ensures { λ r. ⌜ r ≡ agentAt place (now (value .entry)) ⌝ }
 {
     if value.len() == 0 {
         return Agent::Unreadable(Place { offset: 0 }, 0);
     }
-    if readable::readable_agent(value) {
+    if readable::readable_agent(classes, value) {
         Agent::Readable(place, value.len())
     } else {
         Agent::Unreadable(place, value.len())
@@ -47,115 +50,66 @@ fn pattern_at(place: Place, value: &[u8], readable: bool) -> Pattern
     }
 }
 
-// "#", CR or LF: the end of what is examined of a line. Most octets are past all three.
-fn is_stop(x: u8) -> bool
-    ensures { λ r. ⌜ r ≡ stop x ⌝ }
-{
-    if b'#' < x {
-        return false;
-    }
-    if x == b'#' {
-        return true;
-    }
-    octets::is_line_end(x)
-}
-
-// The octets in front of the first stop.
-fn examined(s: &[u8]) -> usize
-    ensures { λ r. ⌜ r ≡ length (upTo stop (now (s .entry))) ⌝ }
-{
-    let mut i = 0;
-    while i < s.len() {
-        if is_stop(s[i]) {
-            return i;
-        }
-        i += 1;
-    }
-    i
-}
-
 // The octets of the value that a text begins with.
-fn value_length(s: &[u8]) -> usize
+fn value_length(classes: &[u8; 256], s: &[u8]) -> usize
+    requires { ⌜ now classes ≡ classTable ⌝ }
     ensures { λ r. ⌜ r ≡ length (trimEnd (upTo stop (now (s .entry)))) ⌝ }
 {
-    let end = examined(s);
-    text::trimmed_length(&s[..end])
+    let end = text::scan(classes, s, Sort::Stop, true);
+    text::trimmed_length(classes, &s[..end])
 }
 
 // The agent of the value that begins there.
-fn agent_of(r: &[u8], value: Place) -> Agent
-    requires { ⌜ value .offset ≤ length (now r) ⌝ }
+fn agent_of(classes: &[u8; 256], r: &[u8], value: Place) -> Agent
+    requires { ⌜ (now classes ≡ classTable) × (value .offset ≤ length (now r)) ⌝ }
     ensures { λ a. ⌜ a ≡ agentAt value (valueAt value (now (r .entry))) ⌝ }
 {
     let start = value.offset;
     let rest = &r[start..];
-    let end = value_length(rest);
-    agent_at(value, &rest[..end])
+    let end = value_length(classes, rest);
+    agent_at(classes, value, &rest[..end])
 }
 
-// Nothing is examined from there on.
-fn ends_at(s: &[u8], at: Place) -> bool
+// Nothing is examined from there on. Most octets are past all stops, which is told sooner than their class.
+fn ends_at(classes: &[u8; 256], s: &[u8], at: Place) -> bool
+    requires { ⌜ now classes ≡ classTable ⌝ }
     ensures { λ r. ⌜ r ≡ ended (drop (at .offset) (now (s .entry))) ⌝ }
 {
     let i = at.offset;
     if s.len() <= i {
         return true;
     }
-    is_stop(s[i])
+    if b'#' < s[i] {
+        return false;
+    }
+    octets::is_of(classes, Sort::Stop, s[i])
 }
 
 // The pattern of the value that begins there. Most are of ordinary octets alone, which hold no space and are whole characters.
-fn pattern_of(r: &[u8], place: Place) -> Pattern
-    requires { ⌜ place .offset ≤ length (now r) ⌝ }
+fn pattern_of(classes: &[u8; 256], r: &[u8], place: Place) -> Pattern
+    requires { ⌜ (now classes ≡ classTable) × (place .offset ≤ length (now r)) ⌝ }
     ensures { λ p. ⌜ p ≡ patternAt place (valueAt place (now (r .entry))) ⌝ }
 {
     let start = place.offset;
     let rest = &r[start..];
     let n = readable::ordinary_front(rest);
-    if ends_at(rest, Place { offset: n }) {
+    if ends_at(classes, rest, Place { offset: n }) {
         let whole = &rest[..n];
         return pattern_at(place, whole, readable::pattern_start(whole));
     }
-    let end = value_length(rest);
+    let end = value_length(classes, rest);
     let value = &rest[..end];
     pattern_at(place, value, readable::readable_pattern(value))
 }
 
-// A colon or a stop. Most octets are past all of them.
-fn is_delimiter(x: u8) -> bool
-    ensures { λ r. ⌜ r ≡ delimiter x ⌝ }
-{
-    if b':' < x {
-        return false;
-    }
-    if x == b':' {
-        return true;
-    }
-    is_stop(x)
-}
-
-// The octets in front of the first colon or stop.
-fn field_end(s: &[u8]) -> usize
-    ensures { λ r. ⌜ r ≡ length (upTo delimiter (now (s .entry))) ⌝ }
-{
-    let mut i = 0;
-    while i < s.len() {
-        if is_delimiter(s[i]) {
-            return i;
-        }
-        i += 1;
-    }
-    i
-}
-
 // The kind of a line that has no field that the protocol knows.
-fn idle_kind(r: &[u8]) -> Kind
-    requires { ⌜ fieldOf (kindOf (lineText (now r))) ≡ Field.Other ⌝ }
+fn idle_kind(classes: &[u8; 256], r: &[u8]) -> Kind
+    requires { ⌜ (now classes ≡ classTable) × (fieldOf (kindOf (lineText (now r))) ≡ Field.Other) ⌝ }
     ensures { λ k. ⌜ k ≡ kindOf (lineText (now (r .entry))) ⌝ }
 {
-    let start = text::lead(r);
+    let start = text::lead(classes, r);
     let rest = &r[start..];
-    let n = field_end(rest);
+    let n = text::scan(classes, rest, Sort::Delimiter, true);
     if fields::colon_at(rest, Place { offset: n }) {
         return Kind::Other;
     }
@@ -178,27 +132,28 @@ fn side_of(field: Field) -> Side
 }
 
 // The kind of a line whose head is known.
-pub fn kind_at(r: &[u8], head: Head) -> Kind
-    requires { ⌜ head ≡ headOf (now r) ⌝ }
+pub fn kind_at(classes: &[u8; 256], r: &[u8], head: Head) -> Kind
+    requires { ⌜ (now classes ≡ classTable) × (head ≡ headOf (now r)) ⌝ }
     ensures { λ k. ⌜ k ≡ kindOf (lineText (now (r .entry))) ⌝ }
 {
     let field = head.field;
     if let Field::Other = field {
-        return idle_kind(r);
+        return idle_kind(classes, r);
     }
     if let Field::Agent = field {
-        return Kind::Agent(agent_of(r, head.value));
+        return Kind::Agent(agent_of(classes, r, head.value));
     }
     let side = side_of(field);
-    Kind::Rule(side, pattern_of(r, head.value))
+    Kind::Rule(side, pattern_of(classes, r, head.value))
 }
 
 // Most lines that have no field begin with what ends them.
-pub fn kind_of(r: &[u8]) -> Kind
+pub fn kind_of(classes: &[u8; 256], r: &[u8]) -> Kind
+    requires { ⌜ now classes ≡ classTable ⌝ }
     ensures { λ k. ⌜ k ≡ kindOf (lineText (now (r .entry))) ⌝ }
 {
-    if ends_at(r, Place { offset: 0 }) {
+    if ends_at(classes, r, Place { offset: 0 }) {
         return Kind::Blank;
     }
-    kind_at(r, fields::head_of(r))
+    kind_at(classes, r, fields::head_of(classes, r))
 }

@@ -8,7 +8,6 @@ use native.Mathlib.Omega.{arith}
 use lib.Dec.{eqb}
 use lib.ListN.{length, getD}
 use borrow.Author.Tests.{eqb-true}
-use Rattle.lists.specs.Choice.{if_then_else_}
 use Rattle.lists.proofs.Bools.{split}
 use Rattle.protocol.specs.declared.LineNumber.{LineNumber}
 use Rattle.protocol.specs.declared.Place.{Place}
@@ -17,11 +16,6 @@ use Rattle.protocol.specs.Text.{begins}
 use Rattle.protocol.specs.Lines.{numberAfter, placeAfter, endingLength, lineLength, linesFrom, hasLeadingMark}
 use Rattle.protocol.proofs.FrontToBack.{length-on, length-ending, linesBehind}
 use Rattle.lines.specs.Skips.{closes}
-
-pub no-ending : (s : List ℕ) → length s ≡ 0 → endingLength s ≡ 0
-unfolding endingLength
-no-ending [] h = refl
-no-ending (c ∷ l) h = absurd (omega arith)
 
 -- an ending of CR LF, and any other
 module _ (c : ℕ) (l : List ℕ) where
@@ -32,19 +26,6 @@ module _ (c : ℕ) (l : List ℕ) where
   other-ending : lineEnd c ≡ true → (is "\r" c && begins "\n" l) ≡ false → endingLength (c ∷ l) ≡ 1
   unfolding endingLength
   other-ending e h = rw (h, e)
-
-  none-ending : lineEnd c ≡ false → endingLength (c ∷ l) ≡ 0
-  unfolding endingLength lineEnd
-  none-ending = go (is "\r" c) (is "\n" c) (begins "\n" l)
-    where
-      go : (r f lf : Bool) → (r || f) ≡ false → _≡_ {A = ℕ} (if r && lf then 2 else if r || f then 1 else 0) 0
-      go true f lf e = absurd (true≢false e)
-      go false true lf e = absurd (true≢false e)
-      go false false lf e = refl
-
-pub text-ending : (s : List ℕ) → 0 < length s → lineEnd (getD s 0 0) ≡ false → endingLength s ≡ 0
-text-ending [] h e = absurd (omega arith)
-text-ending (c ∷ l) h e = none-ending c l e
 
 -- one octet is left, or more
 pub last-ending : (s : List ℕ) → length s ≡ 1 → lineEnd (getD s 0 0) ≡ true → endingLength s ≡ 1

@@ -1,14 +1,15 @@
 -- The lines of a file, from one to the next: where the line behind the one at a place begins. Assumes nothing.
 use Prim.Native.Nat.{ℕ, zero, suc, _+_, _≤_, _<_}
-use mathlib.Core.Path.{_≡_, ap, _∙_}
+use mathlib.Core.Path.{_≡_, sym, ap, _∙_}
+use mathlib.Core.Bool.{true}
 use mathlib.Core.List.{List, [], _∷_}
 use native.Mathlib.Omega.{arith}
 use lib.ListN.{length, drop, getD, length-drop, drop-of-length-le}
-use lib.Seq.{drop-drop}
+use lib.Seq.{drop-drop, getD-drop}
 use Rattle.lists.specs.Lists.{upTo}
 use Rattle.lists.proofs.Bools.{split}
 use Rattle.lists.proofs.Parts.{upTo-stop, upTo-on}
-use Rattle.lists.proofs.Scans.{upTo-fits, drop-upTo, drop-one}
+use Rattle.lists.proofs.Scans.{upTo-fits, upTo-stops, drop-upTo, drop-one}
 use Rattle.protocol.specs.declared.Place.{Place}
 use Rattle.protocol.specs.Octets.{lineEnd}
 use Rattle.protocol.specs.Lines.{placeAt, placeAfter, lineText, endingLength, lineLength}
@@ -24,6 +25,18 @@ module _ (file : List ℕ) (p : Place) where
         let rest : List ℕ = drop (p .offset) file in
         let size : ℕ = length (lineText rest) in
         rw (h, ← drop-drop size (p .offset) file, drop-upTo lineEnd rest) (ap placeAt (omega arith))
+
+    -- an ending it is, where octets are left
+    pub ends-there : e .offset < length file → lineEnd (getD (drop (e .offset) file) 0 0) ≡ true
+    ends-there k =
+        let rest : List ℕ = drop (p .offset) file in
+        let size : ℕ = length (lineText rest) in
+        let z : size + 0 ≡ size = omega arith in
+        let inside : size < length rest = omega (arith, ap (λ (q : Place). q .offset) h, length-drop (p .offset) file) in
+        ap (λ (q : Place). lineEnd (getD (drop (q .offset) file) 0 0)) h
+        ∙ ap (λ (l : List ℕ). lineEnd (getD l 0 0)) (sym (drop-drop size (p .offset) file))
+        ∙ ap lineEnd (getD-drop size rest 0 0 ∙ ap (λ n. getD rest n 0) z)
+        ∙ upTo-stops lineEnd rest 0 inside
 
     -- where no octet is left, none is
     pub next-end : length file ≤ e .offset → e ≡ nextAt file p

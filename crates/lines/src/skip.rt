@@ -26,7 +26,7 @@ fn is_quiet(b: &[u8], rules: bool) -> bool
     let mut found = 0u8;
     let mut i = 0;
     while i < 64 {
-        if octets::is_line_end(b[i]) & may_begin(b[i + 1], rules) {
+        if ((b[i] == b'\r') | (b[i] == b'\n')) & may_begin(b[i + 1], rules) {
             found += 1;
         }
         i += 1;

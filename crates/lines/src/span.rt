@@ -1,9 +1,12 @@
 // Where the lines of a file begin.
 
 ghost use mathlib.Core.Path.{_≡_};
-ghost use mathlib.Core.Bool.{_&&_};
-ghost use Rattle.protocol.specs.Octets.{is};
+ghost use mathlib.Core.Bool.{true, _&&_};
+ghost use Prim.Native.Nat.{_<_};
+ghost use lib.ListN.{length, getD};
+ghost use Rattle.protocol.specs.Octets.{is, lineEnd};
 ghost use Rattle.protocol.specs.Lines.{hasLeadingMark, skipped, placeAt, endingLength};
+ghost use Rattle.protocol.specs.Classes.{classTable};
 ghost use Rattle.lines.specs.Spans.{nextAt};
 use protocol::Place;
 
@@ -44,16 +47,11 @@ fn is_cr_lf(c: u8, d: u8) -> bool
     d == b'\n'
 }
 
-// The octets of the line ending that a text begins with.
+// The octets of the line ending that a text begins with. It has to begin with one.
 fn ending_length(s: &[u8]) -> usize
+    requires { ⌜ (0 < length (now s)) × (lineEnd (getD (now s) 0 0) ≡ true) ⌝ }
     ensures { λ r. ⌜ r ≡ endingLength (now (s .entry)) ⌝ }
 {
-    if s.len() == 0 {
-        return 0;
-    }
-    if !octets::is_line_end(s[0]) {
-        return 0;
-    }
     if s.len() == 1 {
         return 1;
     }
@@ -64,10 +62,11 @@ fn ending_length(s: &[u8]) -> usize
 }
 
 // Where the line behind the one at `from` begins: the end of the file, if none does.
-pub fn next_place(file: &[u8], from: Place) -> Place
+pub fn next_place(classes: &[u8; 256], file: &[u8], from: Place) -> Place
+    requires { ⌜ now classes ≡ classTable ⌝ }
     ensures { λ r. ⌜ r ≡ nextAt (now (file .entry)) from ⌝ }
 {
-    let end = text::line_end(file, from);
+    let end = text::line_end(classes, file, from);
     let stop = end.offset;
     if file.len() <= stop {
         return end;

@@ -1,13 +1,15 @@
 -- A list read from an index on, up to the first element that passes a test: what each turn of a search finds. Assumes nothing.
 use Prim.Native.Nat.{ℕ, suc, _+_, _-_, _≤_, _<_}
 use mathlib.Core.Path.{_≡_, refl, sym, ap, _∙_}
-use mathlib.Core.Bool.{Bool, true, false}
+use mathlib.Core.Bool.{Bool, true, false, not}
 use mathlib.Core.List.{List, [], _∷_, tail}
 use native.Mathlib.Omega.{arith}
 use native.Mathlib.Numerals.{add-one}
+use lib.Dec.{ltb, eqb}
 use lib.ListN.{length, take, drop, getD, length-append, length-drop, drop-of-length-le}
 use lib.Seq.{drop-cons, drop-drop, drop-at, take-all, take-append-seam}
-use Rattle.lists.specs.Lists.{any, upTo, from}
+use borrow.Author.Tests.{lt-ltb, le-ltb, ltb-true, ltb-false, eq-eqb, ne-eqb, eqb-true, eqb-false}
+use Rattle.lists.specs.Lists.{all, any, upTo, from}
 use Rattle.lists.proofs.Bools.{split}
 use Rattle.lists.proofs.Parts.{upTo-stop, upTo-on, upTo-from}
 
@@ -62,22 +64,27 @@ module _ {A : Type 0} (f : A → Bool) where
   drop-past l = sym (drop-drop 1 (length (upTo f l)) l) ∙ ap (drop 1) (drop-upTo l) ∙ drop-first (from f l)
 
   -- some element passes the test exactly where the first part is not the whole
-  pub any-some : (l : List A) → length (upTo f l) < length l → any f l ≡ true
-  unfolding any
-  any-some [] h = absurd (omega arith)
-  any-some (x ∷ l) h = split (f x) (λ e. rw e) (λ e. rw e (any-some l (shorter (rw (upTo-on f x l e) at h))))
+  pub any-found : (l : List A) → ltb (length (upTo f l)) (length l) ≡ any f l
+  unfolding any upTo
+  any-found [] = refl
+  any-found (x ∷ l) =
+      split (f x) (λ e. rw (upTo-stop f x l e, e) (lt-ltb 0 (suc (length l)) (omega arith)))
+      (λ e. rw (upTo-on f x l e, e) (below (length (upTo f l)) (length l) ∙ any-found l))
     where
-      shorter : {m n : ℕ} → suc m < suc n → m < n
-      shorter k = omega arith
+      below : (m n : ℕ) → ltb (suc m) (suc n) ≡ ltb m n
+      below m n =
+          split (ltb m n) (λ e. lt-ltb (suc m) (suc n) (omega (arith, ltb-true m n e)) ∙ sym e)
+          (λ e. le-ltb (suc m) (suc n) (omega (arith, ltb-false m n e)) ∙ sym e)
 
-  pub any-none : (l : List A) → length l ≤ length (upTo f l) → any f l ≡ false
-  unfolding any
-  any-none [] h = refl
-  any-none (x ∷ l) h =
-      split (f x) (λ e. absurd (nothing (rw (upTo-stop f x l e) at h))) (λ e. rw e (any-none l (shorter (rw (upTo-on f x l e) at h))))
+  -- all do exactly where the part in front of the first that doesn't is the whole
+  pub all-found : (l : List A) → eqb (length (upTo (λ x. not (f x)) l)) (length l) ≡ all f l
+  unfolding all upTo
+  all-found [] = refl
+  all-found (x ∷ l) =
+      split (f x) (λ e. rw (upTo-on (λ y. not (f y)) x l (ap not e), e) (equal (length (upTo (λ y. not (f y)) l)) (length l) ∙ all-found l))
+      (λ e. rw (upTo-stop (λ y. not (f y)) x l (ap not e), e) (ne-eqb 0 (suc (length l)) (λ q. omega arith)))
     where
-      nothing : suc (length l) ≤ 0 → ⊥
-      nothing k = omega arith
-
-      shorter : {m n : ℕ} → suc m ≤ suc n → m ≤ n
-      shorter k = omega arith
+      equal : (m n : ℕ) → eqb (suc m) (suc n) ≡ eqb m n
+      equal m n =
+          split (eqb m n) (λ e. eq-eqb (suc m) (suc n) (ap suc (eqb-true m n e)) ∙ sym e)
+          (λ e. ne-eqb (suc m) (suc n) (λ q. eqb-false m n e (omega arith)) ∙ sym e)

@@ -11,13 +11,13 @@ use Rattle.lists.specs.Lists.{all, upTo}
 use Rattle.lists.proofs.Bools.{split, and-left, and-right}
 use Rattle.lists.proofs.Parts.{upTo-stop, upTo-on}
 use Rattle.lists.proofs.Fronts.{upTo-clear}
-use Rattle.protocol.specs.Octets.{hex, unreserved}
+use Rattle.protocol.specs.Octets.{hex, hexValue, unreserved}
 use Rattle.protocol.specs.Normal.{encoded, meant, escape, isEscape, escapeAt, special, isEncoded, plain, replacement, normal}
 use Rattle.protocol.specs.Pattern.{isStar, firstRun, laterRuns}
 use Rattle.escapes.specs.Escapes.{taken}
-use Rattle.escapes.proofs.Sorts.{unreserved-not-star, hex-not-star, upper-not-star, digit-not-star}
+use Rattle.escapes.proofs.Sorts.{unreserved-not-star, hex-not-star, digit-not-star, upper-digit}
 use Rattle.escapes.proofs.Forms.{no-percent, escape-hex}
-use Rattle.normal.proofs.Steps.{normal-cons, by-replacements}
+use Rattle.normal.proofs.Steps.{normal-cons, normal-kept, by-replacements}
 
 -- no star is among these octets
 abbrev Clear : List ℕ → Type 0
@@ -28,7 +28,7 @@ escape-clear : (d e : ℕ) → hex d ≡ true → hex e ≡ true → Clear (esca
 unfolding escape all
 escape-clear d e h k =
     split (unreserved (meant d e)) (λ u. rw (u, unreserved-not-star (meant d e) u))
-    (λ u. rw (u, upper-not-star d h, upper-not-star e k))
+    (λ u. rw (u, upper-digit d h, digit-not-star (hexValue d), upper-digit e k, digit-not-star (hexValue e)))
 
 plain-clear : (c : ℕ) → isStar c ≡ false → Clear (plain true c)
 unfolding plain encoded all
@@ -49,8 +49,8 @@ module _ (c : ℕ) (l : List ℕ) (s : isStar c ≡ true) where
   star-alone = no-percent c l (λ e. eqb-false (code "*") (code "%") refl (sym (eqb-true c (code "*") s) ∙ e))
 
   star-kept : normal true 0 (c ∷ l) ≡ c ∷ normal true 0 l
-  unfolding normal replacement plain special
-  star-kept = rw star-alone (rw (eqb-true c (code "*") s))
+  unfolding special
+  star-kept = normal-kept true c l (rw (eqb-true c (code "*") s))
 
   star-rest : drop (taken c l) (c ∷ l) ≡ l
   star-rest = rw star-alone

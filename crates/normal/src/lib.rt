@@ -1,10 +1,12 @@
 // Normalising a text: written to lent memory, one run of a pattern among them, or measured; and a pattern's weight.
 
 ghost use mathlib.Core.Path.{_≡_};
-ghost use Prim.Native.Nat.{_≤_, _<_, _^_};
-ghost use lib.ListN.{length};
+ghost use Prim.Native.Nat.{_+_, _≤_, _<_, _^_};
+ghost use lib.ListN.{length, drop};
+ghost use lib.Seq.{sets};
 ghost use lib.Dec.{leb};
-ghost use Rattle.protocol.specs.Normal.{normal};
+ghost use Rattle.lists.specs.Lists.{upTo};
+ghost use Rattle.protocol.specs.Normal.{normal, isEncoded};
 ghost use Rattle.protocol.specs.Pattern.{rawText, shapeOf, weight};
 ghost use Rattle.protocol.specs.Answers.{atFront};
 ghost use Rattle.normal.specs.Sizes.{sizeWithin};
@@ -23,13 +25,31 @@ pub enum Written {
     NoRoom,
 }
 
-// Writes the normalised octets to the front, and tells how many.
-pub fn write(stars: bool, s: &[u8], out: &mut [u8]) -> usize
-    requires { ⌜ length (normal stars 0 (now s)) ≤ length (now out) ⌝ }
-    ensures { λ r. ⌜ (r ≡ length (normal stars 0 (now (s .entry)))) × (now (out .exit) ≡ atFront (normal stars 0 (now (s .entry))) (now (out .entry))) ⌝ }
+// Copies the octets in front of the first that doesn't stay as it is, and tells how many.
+fn write_kept(stars: bool, s: &[u8], out: &mut [u8]) -> usize
+    requires { ⌜ length (upTo (isEncoded stars) (now s)) ≤ length (now out) ⌝ }
+    ensures { λ r. ⌜ (r ≡ length (upTo (isEncoded stars) (now (s .entry)))) × (now (out .exit) ≡ sets (now (out .entry)) 0 (upTo (isEncoded stars) (now (s .entry)))) ⌝ }
 {
-    let mut n = 0;
     let mut i = 0;
+    while i < s.len() {
+        let x = s[i];
+        if !escapes::is_kept(stars, x) {
+            return i;
+        }
+        out[i] = x;
+        i += 1;
+    }
+    i
+}
+
+// Writes what is left from a place on, normalised, to that place, and tells where it ends. Only here is the table worth its copy.
+fn write_from(stars: bool, s: &[u8], from: Place, out: &mut [u8]) -> usize
+    requires { ⌜ from .offset + length (normal stars 0 (drop (from .offset) (now s))) ≤ length (now out) ⌝ }
+    ensures { λ r. ⌜ (r ≡ from .offset + length (normal stars 0 (drop (from .offset) (now (s .entry))))) × (now (out .exit) ≡ sets (now (out .entry)) (from .offset) (normal stars 0 (drop (from .offset) (now (s .entry))))) ⌝ }
+{
+    let classes = octets::classes();
+    let mut n = from.offset;
+    let mut i = from.offset;
     while i < s.len() {
         let x = s[i];
         if escapes::is_kept(stars, x) {
@@ -37,7 +57,7 @@ pub fn write(stars: bool, s: &[u8], out: &mut [u8]) -> usize
             n += 1;
             i += 1;
         } else {
-            let p = escapes::changed_at(s, i);
+            let p = escapes::changed_at(&classes, s, i);
             n = escapes::put(p, out, n);
             i += p.taken;
         }
@@ -45,14 +65,27 @@ pub fn write(stars: bool, s: &[u8], out: &mut [u8]) -> usize
     n
 }
 
+// Writes the normalised octets to the front, and tells how many.
+pub fn write(stars: bool, s: &[u8], out: &mut [u8]) -> usize
+    requires { ⌜ length (normal stars 0 (now s)) ≤ length (now out) ⌝ }
+    ensures { λ r. ⌜ (r ≡ length (normal stars 0 (now (s .entry)))) × (now (out .exit) ≡ atFront (normal stars 0 (now (s .entry))) (now (out .entry))) ⌝ }
+{
+    let n = write_kept(stars, s, out);
+    if n == s.len() {
+        return n;
+    }
+    write_from(stars, s, Place { offset: n }, out)
+}
+
 // The normalised octets, measured as far as they fit.
 fn size_within(stars: bool, s: &[u8], room: usize) -> Size
     ensures { λ r. ⌜ r ≡ sizeWithin room (length (normal stars 0 (now (s .entry)))) ⌝ }
 {
+    let classes = octets::classes();
     let mut octets = 0;
     let mut i = 0;
     while i < s.len() {
-        let m = escapes::measure_at(stars, s, i);
+        let m = escapes::measure_at(&classes, stars, s, i);
         if room - octets < m.size {
             return Size {
                 fits: false,

@@ -1,2 +1,1 @@
 pub mod Every
-mod Ladders

@@ -1,146 +1,111 @@
-// What sort an octet is. Each function is document 01's test of one octet, for all 256 of them.
+// What sort an octet is, from a table of all 256 octets.
 
 ghost use mathlib.Core.Path.{_≡_};
-ghost use Prim.Native.Nat.{_/_, _%_};
-ghost use Rattle.protocol.specs.Octets.{token, unreserved, hex, blank, lineEnd, lowerCase, upperCase, hexValue, hexDigit};
+ghost use Prim.Native.Nat.{_<_, _/_, _%_};
+ghost use lib.Dec.{eqb};
+ghost use Rattle.protocol.specs.Octets.{lowerCase, hexDigit};
 ghost use Rattle.protocol.specs.Refusals.{outsidePath};
+ghost use Rattle.protocol.specs.Classes.{classTable, classOf, TellsSorts, firstClass, lastClass, isOf};
+use protocol::Sort;
 
-// An octet of a crawler's name.
-pub fn is_token(x: u8) -> bool
-    ensures { λ r. ⌜ r ≡ token x ⌝ }
+// The class number of each octet: the place of its lower-case form in an order in which the octets of each sort stand together.
+//   0 to 9 "0" to "9"; 10 to 35 "a" to "z", and "A" to "Z" too; 36 to 39 -_.~; 40 to 62 !"&'()+,;<=>?@[\]^`{|}/; 63 to 65 *$%; 66 0x7F
+//   67 to 96 0xC2 to 0xDF; 97 to 109 0xE0 to 0xEC; 110 and 111 0xEE and 0xEF; 112 0xED; 113 to 128 0xF0 to 0xFF; 129 to 194 0x80 to 0xC1
+//   195 to 203 0 to 8; 204 and 205 0x0B and 0x0C; 206 to 223 0x0E to 0x1F; 224 tab; 225 space; 226 ":"; 227 "#"; 228 LF; 229 CR
+// No four neighbours are equal: the compiler then copies the table in sixteen moves.
+const CLASSES: [u8; 256] =
+    *b"\xc3\xc4\xc5\xc6\xc7\xc8\xc9\xca\xcb\xe0\xe4\xcc\xcd\xe5\xce\xcf\xd0\xd1\xd2\xd3\xd4\xd5\xd6\xd7\xd8\xd9\xda\xdb\xdc\xdd\xde\xdf\xe1\x28\x29\xe3\x40\x41\x2a\x2b\x2c\x2d\x3f\x2e\x2f\x24\x26\x3e\x00\x01\x02\x03\x04\x05\x06\x07\x08\x09\xe2\x30\x31\x32\x33\x34\x35\x0a\x0b\x0c\x0d\x0e\x0f\x10\x11\x12\x13\x14\x15\x16\x17\x18\x19\x1a\x1b\x1c\x1d\x1e\x1f\x20\x21\x22\x23\x36\x37\x38\x39\x25\x3a\x0a\x0b\x0c\x0d\x0e\x0f\x10\x11\x12\x13\x14\x15\x16\x17\x18\x19\x1a\x1b\x1c\x1d\x1e\x1f\x20\x21\x22\x23\x3b\x3c\x3d\x27\x42\x81\x82\x83\x84\x85\x86\x87\x88\x89\x8a\x8b\x8c\x8d\x8e\x8f\x90\x91\x92\x93\x94\x95\x96\x97\x98\x99\x9a\x9b\x9c\x9d\x9e\x9f\xa0\xa1\xa2\xa3\xa4\xa5\xa6\xa7\xa8\xa9\xaa\xab\xac\xad\xae\xaf\xb0\xb1\xb2\xb3\xb4\xb5\xb6\xb7\xb8\xb9\xba\xbb\xbc\xbd\xbe\xbf\xc0\xc1\xc2\x43\x44\x45\x46\x47\x48\x49\x4a\x4b\x4c\x4d\x4e\x4f\x50\x51\x52\x53\x54\x55\x56\x57\x58\x59\x5a\x5b\x5c\x5d\x5e\x5f\x60\x61\x62\x63\x64\x65\x66\x67\x68\x69\x6a\x6b\x6c\x6d\x70\x6e\x6f\x71\x72\x73\x74\x75\x76\x77\x78\x79\x7a\x7b\x7c\x7d\x7e\x7f\x80";
+
+// The upper-case hex digits.
+const DIGITS: [u8; 16] = *b"0123456789ABCDEF";
+
+// The table, copied. A constant is copied wherever it is named, so whoever is called from C copies it once, and lends it to all who ask.
+pub fn classes() -> [u8; 256]
+    ensures { λ r. ⌜ r ≡ classTable ⌝ }
+    ensures { λ r. ⌜ TellsSorts r ⌝ }
 {
-    if x < b'A' {
-        return x == b'-';
-    }
-    if x <= b'Z' {
-        return true;
-    }
-    if x < b'a' {
-        return x == b'_';
-    }
-    x <= b'z'
+    CLASSES
 }
 
-// An octet that stands for itself in a path, however it is written.
-pub fn is_unreserved(x: u8) -> bool
-    ensures { λ r. ⌜ r ≡ unreserved x ⌝ }
+// The class number of an octet.
+pub fn class_of(classes: &[u8; 256], x: u8) -> u8
+    requires { ⌜ now classes ≡ classTable ⌝ }
+    ensures { λ r. ⌜ r ≡ classOf x ⌝ }
 {
-    if x < b'0' {
-        return x == b'-' || x == b'.';
-    }
-    if x <= b'9' {
-        return true;
-    }
-    if x < b'A' {
-        return false;
-    }
-    if x <= b'Z' {
-        return true;
-    }
-    if x < b'a' {
-        return x == b'_';
-    }
-    x <= b'z' || x == b'~'
+    classes[x as usize]
 }
 
-pub fn is_hex(x: u8) -> bool
-    ensures { λ r. ⌜ r ≡ hex x ⌝ }
+// The class numbers of a sort: the first of them.
+fn first_class(sort: Sort) -> u8
+    ensures { λ r. ⌜ r ≡ firstClass sort ⌝ }
 {
-    if x < b'A' {
-        return b'0' <= x && x <= b'9';
+    match sort {
+        Sort::Token => 10,
+        Sort::Unreserved => 0,
+        Sort::Hex => 0,
+        Sort::Blank => 224,
+        Sort::LineEnd => 228,
+        Sort::Stop => 227,
+        Sort::Delimiter => 226,
     }
-    if x <= b'F' {
-        return true;
-    }
-    b'a' <= x && x <= b'f'
 }
 
-// The number that a hex digit stands for; of any other octet, what the definition gives.
-pub fn hex_value(x: u8) -> u8
-    ensures { λ r. ⌜ r ≡ hexValue x ⌝ }
+// The last of them.
+fn last_class(sort: Sort) -> u8
+    ensures { λ r. ⌜ r ≡ lastClass sort ⌝ }
 {
-    if x < b'0' {
-        return 10;
+    match sort {
+        Sort::Token => 37,
+        Sort::Unreserved => 39,
+        Sort::Hex => 15,
+        Sort::Blank => 225,
+        Sort::LineEnd => 255,
+        Sort::Stop => 255,
+        Sort::Delimiter => 255,
     }
-    if x <= b'9' {
-        return x - b'0';
-    }
-    if x < b'A' {
-        return 10;
-    }
-    if x <= b'Z' {
-        return x - b'A' + 10;
-    }
-    if x < b'a' {
-        return 10;
-    }
-    x - b'a' + 10
 }
 
-pub fn lower_case(x: u8) -> u8
-    ensures { λ r. ⌜ r ≡ lowerCase x ⌝ }
+// The octet is of that sort.
+pub fn is_of(classes: &[u8; 256], sort: Sort, x: u8) -> bool
+    requires { ⌜ now classes ≡ classTable ⌝ }
+    ensures { λ r. ⌜ r ≡ isOf sort x ⌝ }
 {
-    if x < b'A' {
-        return x;
-    }
-    if b'Z' < x {
-        return x;
-    }
-    x + 32
+    let c = class_of(classes, x);
+    first_class(sort) <= c && c <= last_class(sort)
 }
 
-pub fn upper_case(x: u8) -> u8
-    ensures { λ r. ⌜ r ≡ upperCase x ⌝ }
+// Two octets are one, ASCII case ignored.
+pub fn is_same(classes: &[u8; 256], x: u8, y: u8) -> bool
+    requires { ⌜ now classes ≡ classTable ⌝ }
+    ensures { λ r. ⌜ r ≡ eqb (lowerCase x) (lowerCase y) ⌝ }
 {
-    if x < b'a' {
-        return x;
-    }
-    if b'z' < x {
-        return x;
-    }
-    x - 32
+    class_of(classes, x) == class_of(classes, y)
+}
+
+// The upper-case hex digit of a number.
+fn hex_digit(n: u8) -> u8
+    requires { ⌜ n < 16 ⌝ }
+    ensures { λ r. ⌜ r ≡ hexDigit n ⌝ }
+{
+    let digits = DIGITS;
+    digits[n as usize]
 }
 
 // The first of the two upper-case hex digits of an octet.
 pub fn high_digit(x: u8) -> u8
     ensures { λ r. ⌜ r ≡ hexDigit (x / 16) ⌝ }
 {
-    let n = x / 16;
-    if n < 10 {
-        return b'0' + n;
-    }
-    b'A' + (n - 10)
+    hex_digit(x / 16)
 }
 
 // The second of them.
 pub fn low_digit(x: u8) -> u8
     ensures { λ r. ⌜ r ≡ hexDigit (x % 16) ⌝ }
 {
-    let n = x % 16;
-    if n < 10 {
-        return b'0' + n;
-    }
-    b'A' + (n - 10)
+    hex_digit(x % 16)
 }
 
-// A space or a tab.
-pub fn is_blank(x: u8) -> bool
-    ensures { λ r. ⌜ r ≡ blank x ⌝ }
-{
-    x == b' ' || x == b'\t'
-}
-
-// CR or LF. Most octets are past both.
-pub fn is_line_end(x: u8) -> bool
-    ensures { λ r. ⌜ r ≡ lineEnd x ⌝ }
-{
-    if b'\r' < x {
-        return false;
-    }
-    x == b'\r' || x == b'\n'
-}
-
-// An octet that no path holds.
+// An octet that no path holds. A short path is looked through sooner than the table is copied.
 pub fn is_outside_path(x: u8) -> bool
     ensures { λ r. ⌜ r ≡ outsidePath x ⌝ }
 {

@@ -37,7 +37,7 @@ isAgent Field.Other = false
 not-agent-first : (t : List ℕ) → beginsName Field.Agent t ≡ false → isAgent (fieldAt t) ≡ false
 unfolding fieldAt
 not-agent-first t h =
-    split (beginsName Field.Allow t) (λ a. rw (h, a)) (λ a. split (beginsName Field.Disallow t) (λ d. rw (h, a, d)) (λ d. rw (h, a, d)))
+    split (beginsName Field.Disallow t) (λ d. rw d) (λ d. split (beginsName Field.Allow t) (λ a. rw (d, a)) (λ a. rw (d, a, h)))
 
 -- such a line names nobody
 pub no-agent-named : (who v : List ℕ) (k : Kind) → isAgent (fieldOf k) ≡ false → roleNames who v (roleOf k) ≡ false
@@ -91,7 +91,7 @@ first-no-agent c l h = rw (field-first c l (not-blank false c h)) (kept (begins 
 pub first-idle : (c : ℕ) (l : List ℕ) → entryOctet true c ≡ false → fieldOf (kindOf (lineText (c ∷ l))) ≡ Field.Other
 first-idle c l h =
     let no : Field.Other ≡ fieldAt (c ∷ l)
-    = field-no (c ∷ l) (lowerCase c) refl (λ e. absurd (false≢true (sym (not-d c h) ∙ rw e))) (λ e. absurd (false≢true (sym (not-a c h) ∙ rw e))) (λ e. absurd (false≢true (sym (not-u true c h) ∙ rw e))) in
+    = field-no (c ∷ l) (λ e. absurd (false≢true (sym (not-d c h) ∙ rw e))) (λ e. absurd (false≢true (sym (not-a c h) ∙ rw e))) (λ e. absurd (false≢true (sym (not-u true c h) ∙ rw e))) in
     field-first c l (not-blank true c h) ∙ rw (← no) (kept (begins ":" (from solid (drop (nameLength Field.Other) (c ∷ l)))))
   where
     kept : (b : Bool) → (if b then Field.Other else Field.Other) ≡ Field.Other

@@ -5,25 +5,26 @@ ghost use Prim.Native.Nat.{_≤_};
 ghost use lib.ListN.{length};
 ghost use Rattle.protocol.specs.Entries.{entries};
 ghost use Rattle.protocol.specs.Rules.{audience};
+ghost use Rattle.protocol.specs.Classes.{classTable};
 ghost use Rattle.passes.specs.Entries.{lineAudience, unlessNobody};
 use fields::Field;
 use protocol::Audience;
 use protocol::Place;
 
 // Whom the line that begins at `at` names.
-fn line_audience(file: &[u8], at: Place, name: &[u8]) -> Audience
-    requires { ⌜ at .offset ≤ length (now file) ⌝ }
+fn line_audience(classes: &[u8; 256], file: &[u8], at: Place, name: &[u8]) -> Audience
+    requires { ⌜ (now classes ≡ classTable) × (at .offset ≤ length (now file)) ⌝ }
     ensures { λ r. ⌜ r ≡ lineAudience (now (file .entry)) (now (name .entry)) at ⌝ }
 {
     let start = at.offset;
     let rest = &file[start..];
-    let head = fields::head_of(rest);
+    let head = fields::head_of(classes, rest);
     let field = head.field;
     let Field::Agent = field else {
         return Audience::Nobody;
     };
-    let kind = kinds::line::kind_at(rest, head);
-    hearing::addressed(name, crate::line::value_of(file, at, kind))
+    let kind = kinds::line::kind_at(classes, rest, head);
+    hearing::addressed(classes, name, crate::line::value_of(file, at, kind))
 }
 
 // Whom a line names, or else whom those in front of it do.
@@ -38,19 +39,20 @@ fn unless_nobody(here: Audience, before: Audience) -> Audience
 }
 
 // The first agent line that names the crawler tells; otherwise it matters whether one names "*".
-pub fn choose_audience(file: &[u8], name: &[u8]) -> Audience
+pub fn choose_audience(classes: &[u8; 256], file: &[u8], name: &[u8]) -> Audience
+    requires { ⌜ now classes ≡ classTable ⌝ }
     ensures { λ r. ⌜ r ≡ audience (now (file .entry)) (entries (now (file .entry))) (now (name .entry)) ⌝ }
 {
     let mut audience = Audience::Nobody;
     let mut at = crate::line::first_line(file);
     while at.place.offset < file.len() {
-        let here = line_audience(file, at.place, name);
+        let here = line_audience(classes, file, at.place, name);
         if let Audience::Crawler = here {
             return here;
         }
         audience = unless_nobody(here, audience);
         let over = lines::skip::pass(file, at, false);
-        at = crate::line::next_line(over, lines::span::next_place(file, over.place));
+        at = crate::line::next_line(over, lines::span::next_place(classes, file, over.place));
     }
     audience
 }

@@ -6,6 +6,7 @@ ghost use lib.ListN.{length};
 ghost use Rattle.protocol.specs.declared.Kind.{Kind};
 ghost use Rattle.protocol.specs.Kinds.{kindOf, unreadableKind};
 ghost use Rattle.protocol.specs.Entries.{rule};
+ghost use Rattle.protocol.specs.Classes.{classTable};
 ghost use Rattle.lines.specs.Spans.{textAt};
 ghost use Rattle.hearing.specs.Heard.{whom};
 ghost use Rattle.considering.specs.Considering.{consideredAll};
@@ -49,6 +50,7 @@ fn is_unread_rule(side: Side, pattern: Pattern) -> bool
 
 // After a line that is no rule line: an agent line is heard, and any other changes nothing.
 fn hear_other(
+    classes: &[u8; 256],
     h: Hearing,
     audience: Audience,
     name: &[u8],
@@ -56,14 +58,14 @@ fn hear_other(
     at: Place,
     kind: Kind,
 ) -> Hearing
-    requires { ⌜ (at .offset ≤ length (now file)) × (kind ≡ kindOf (textAt (now file) at)) × (h .unread + 1 < 2 ^ 64) ⌝ }
+    requires { ⌜ (now classes ≡ classTable) × (at .offset ≤ length (now file)) × (kind ≡ kindOf (textAt (now file) at)) × (h .unread + 1 < 2 ^ 64) ⌝ }
     ensures { λ r. ⌜ r ≡ heardOther (now (file .entry)) (whom audience (now (name .entry))) at kind h ⌝ }
 {
     let Kind::Agent(agent) = kind else {
         return h;
     };
     let value = crate::line::value_of(file, at, kind);
-    hearing::hear_agent(h, audience, name, value, is_unread_agent(agent))
+    hearing::hear_agent(classes, h, audience, name, value, is_unread_agent(agent))
 }
 
 // After a rule line: a readable rule of a group that applies is considered.
@@ -122,13 +124,14 @@ fn pass_line(file: &[u8], at: Position, kind: Kind) -> Position
 
 // After all lines of a file, for those whose groups apply.
 pub fn gather(
+    classes: &[u8; 256],
     file: &[u8],
     audience: Audience,
     name: &[u8],
     path: &[u8],
     scratch: &mut [u8],
 ) -> Gathered
-    requires { ⌜ (length (now file) ≤ 512000) × (length (now path) ≤ 6142) × (length (now path) ≤ length (now scratch)) ⌝ }
+    requires { ⌜ (now classes ≡ classTable) × (length (now file) ≤ 512000) × (length (now path) ≤ 6142) × (length (now path) ≤ length (now scratch)) ⌝ }
     ensures { λ r. ⌜ r ≡ gathered (now (file .entry)) (now (name .entry)) audience (now (path .entry)) ⌝ }
     ensures { λ _. ⌜ length (now (scratch .exit)) ≡ length (now (scratch .entry)) ⌝ }
 {
@@ -138,11 +141,11 @@ pub fn gather(
     while at.place.offset < file.len() {
         let here = at;
         let start = here.place.offset;
-        let kind = kinds::line::kind_of(&file[start..]);
+        let kind = kinds::line::kind_of(classes, &file[start..]);
         let over = pass_line(file, here, kind);
-        at = crate::line::next_line(over, lines::span::next_place(file, over.place));
+        at = crate::line::next_line(over, lines::span::next_place(classes, file, over.place));
         let Kind::Rule(side, pattern) = kind else {
-            h = hear_other(h, audience, name, file, here.place, kind);
+            h = hear_other(classes, h, audience, name, file, here.place, kind);
             continue;
         };
         c = consider_rule(c, h.applies, file, here, side, pattern, path, scratch);

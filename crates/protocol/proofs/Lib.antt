@@ -17,6 +17,7 @@ pub mod NormaliseAnswer
 pub mod KindAnswer
 pub mod Refused
 pub mod Answered
+pub mod Classes
 pub mod Texts
 pub mod Agents
 pub mod Applying

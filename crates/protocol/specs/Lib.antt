@@ -11,6 +11,7 @@ pub mod Matching
 pub mod Walk
 pub mod Starts
 pub mod Refusals
+pub mod Classes
 pub mod Decision
 pub mod Answers
 pub mod Meaning

@@ -1,5 +1,16 @@
 // The types of document 01's answers, and the names of its fields. What each answer is, for every input, is defined in specs/.
 
+// A sort of octets that the code asks for.
+pub enum Sort {
+    Token,
+    Unreserved,
+    Hex,
+    Blank,
+    LineEnd,
+    Stop,
+    Delimiter,
+}
+
 // The number of a line, counted from 1; 0 stands for no line.
 pub struct LineNumber {
     pub number: usize,

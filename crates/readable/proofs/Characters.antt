@@ -7,88 +7,41 @@ use native.Mathlib.Omega.{arith}
 use lib.Dec.{leb, ltb, eqb}
 use lib.ListN.{length, take, drop, getD, replicate, drop-of-length-le}
 use borrow.Author.Tests.{leb-true, ltb-true, lt-ltb, lt-leb, le-leb, ne-eqb}
-use Rattle.lists.specs.Lists.{all, upTo, numbersFrom}
+use Rattle.lists.specs.Lists.{all, upTo}
 use Rattle.lists.proofs.Bools.{split, and-left, and-right}
 use Rattle.lists.proofs.Parts.{upTo-stop, upTo-on}
 use Rattle.lists.specs.Choice.{if_then_else_}
-use Rattle.octets.proofs.Every.{every-octet}
 use Rattle.protocol.specs.Readable.{Range, holds, utf8Tail, never, characterForms, dueAfter, wellFormed}
-use Rattle.readable.specs.declared.Due.{Due}
-use Rattle.readable.specs.Due.{ranges, dueRanges, duePast, ordinary, unusual}
+use Rattle.protocol.specs.Classes.{Bound, _leaves_, classForms, dueUpTo, classOf}
+use Rattle.protocol.proofs.Classes.{due-told}
+use Rattle.readable.specs.Due.{ranges, duePast, ordinary, unusual}
 
--- what is due after the octets up to a bound
-pub record Row : Type 0 where
-  pub bound : ℕ
-  pub due : Due
+abbrev pub last : Bound
+last = 255 leaves never ∷ []
 
-infix 20 _leave_
-abbrev pub _leave_ : ℕ → Due → Row
-b leave d = record { bound = b; due = d }
-
-abbrev pub due : ℕ → ℕ → ℕ → Due
-due low high more = record { low = low; high = high; more = more }
-
-abbrev pub nothing : Due
-nothing = due 0 0 0
-
-abbrev pub noOctet : Due
-noOctet = due 1 0 1
-
-abbrev pub last : Row
-last = 0xFF leave noOctet
-
--- all octets, by the bounds of the code's ranges
-unfoldable pub rows : List Row
-rows =
-    (0x20 leave noOctet)
-    ∷ (0x22 leave nothing)
-    ∷ (0x23 leave noOctet)
-    ∷ (0x7F leave nothing)
-    ∷ (0xC1 leave noOctet)
-    ∷ (0xDF leave due 0x80 0xBF 1)
-    ∷ (0xE0 leave due 0xA0 0xBF 2)
-    ∷ (0xEC leave due 0x80 0xBF 2)
-    ∷ (0xED leave due 0x80 0x9F 2)
-    ∷ (0xEF leave due 0x80 0xBF 2)
-    ∷ (0xF0 leave due 0x90 0xBF 3)
-    ∷ (0xF3 leave due 0x80 0xBF 3)
-    ∷ (0xF4 leave due 0x80 0x8F 3)
-    ∷ last
-    ∷ []
-
--- the row of the octet x: the first whose bound it doesn't pass
-unfoldable pick : ℕ → List Row → Due
-pick x [] = noOctet
-pick x (r ∷ rs) = if leb x (r .bound) then r .due else pick x rs
-
--- the rows are the definition, at all 256 octets
-rows-told : (x : ℕ) → x < 256 → dueRanges (pick x rows) ≡ dueAfter x characterForms
-unfolding numbersFrom rows pick dueAfter characterForms
-rows-told = every-octet (λ x. dueRanges (pick x rows)) (λ x. dueAfter x characterForms) refl
-
--- the row k is x's, if x passes the bounds before it and not its own
-row-picked : (l : List Row) (k low x : ℕ) (d : Row) → all (λ r. ltb (r .bound) low) (take k l) ≡ true → ltb k (length l) ≡ true → low ≤ x
-    → x ≤ getD l k d .bound → pick x l ≡ getD l k d .due
-unfolding pick all
-row-picked [] k low x d h i p q = absurd (omega (arith, ltb-true k 0 i))
-row-picked (r ∷ l) zero low x d h i p q = rw (le-leb x (r .bound) q)
-row-picked (r ∷ l) (suc k) low x d h i p q =
-    let more : Bool = all (λ s. ltb (s .bound) low) (take k l) in
-    let passed : r .bound < low = ltb-true (r .bound) low (and-left (ltb (r .bound) low) more h) in
+-- the bound k is c's, if c passes those before it and not this one
+bound-picked : (l : List Bound) (k low c : ℕ) (d : Bound) → all (λ b. ltb (b .class) low) (take k l) ≡ true → ltb k (length l) ≡ true → low ≤ c
+    → c ≤ getD l k d .class → dueUpTo c l ≡ getD l k d .due
+unfolding dueUpTo all
+bound-picked [] k low c d h i p q = absurd (omega (arith, ltb-true k 0 i))
+bound-picked (b ∷ l) zero low c d h i p q = rw (le-leb c (b .class) q)
+bound-picked (b ∷ l) (suc k) low c d h i p q =
+    let more : Bool = all (λ a. ltb (a .class) low) (take k l) in
+    let passed : b .class < low = ltb-true (b .class) low (and-left (ltb (b .class) low) more h) in
     let inside : suc k < suc (length l) = ltb-true (suc k) (suc (length l)) i in
-    rw (lt-leb x (r .bound) (omega arith)) (row-picked l k low x d (and-right (ltb (r .bound) low) more h) (lt-ltb k (length l) (omega arith)) p q)
+    rw (lt-leb c (b .class) (omega arith)) (bound-picked l k low c d (and-right (ltb (b .class) low) more h) (lt-ltb k (length l) (omega arith)) p q)
 
--- what is due after an octet of the row k, which begins at `low`
-module _ (k low x : ℕ) (h : all (λ r. ltb (r .bound) low) (take k rows) ≡ true) (i : ltb k (length rows) ≡ true) where
-  pub due-in : {r : Due} → r ≡ getD rows k last .due → x < 256 → low ≤ x → x ≤ getD rows k last .bound → dueRanges r ≡ dueAfter x characterForms
-  due-in e octet p q = ap dueRanges (e ∙ sym (row-picked rows k low x last h i p q)) ∙ rows-told x octet
+-- what is due after an octet whose class number is from `low` up to the bound k
+module _ (k low x c : ℕ) (h : all (λ b. ltb (b .class) low) (take k classForms) ≡ true) (i : ltb k (length classForms) ≡ true) where
+  pub due-in : {l : List Range} → l ≡ getD classForms k last .due → c ≡ classOf x → x < 256 → low ≤ c → c ≤ getD classForms k last .class → l ≡ dueAfter x characterForms
+  due-in e told octet p q =
+      e ∙ sym (bound-picked classForms k low c last h i p q) ∙ ap (λ n. dueUpTo n classForms) told ∙ due-told x octet
 
 ordinary-due : (x : ℕ) → ordinary x ≡ true → [] ≡ dueAfter x characterForms
-unfolding rows all
+unfolding dueAfter characterForms
 ordinary-due x h =
     let low : 0x24 ≤ x = leb-true 0x24 x (and-left (leb 0x24 x) (leb x 0x7F) h) in
-    let high : x ≤ 0x7F = leb-true x 0x7F (and-right (leb 0x24 x) (leb x 0x7F) h) in
-    due-in 3 0x24 x refl refl {r = nothing} refl (omega arith) low high
+    rw (le-leb 0x21 x (omega arith), lt-leb x 0x21 (omega arith), le-leb 0x22 x (omega arith), lt-leb x 0x22 (omega arith), h)
 
 tails : (n : ℕ) → ranges 0x80 0xBF n ≡ replicate n utf8Tail
 tails zero = refl
@@ -100,7 +53,7 @@ module _ (low high x : ℕ) where
   unfolding duePast
   past-none n e = rw e
 
-  pub past-ordinary : (n : ℕ) → n ≡ 0 → ordinary x ≡ true → ranges low high n ≡ duePast (ranges low high n) x
+  past-ordinary : (n : ℕ) → n ≡ 0 → ordinary x ≡ true → ranges low high n ≡ duePast (ranges low high n) x
   unfolding duePast
   past-ordinary n e h = rw e (ordinary-due x h)
 

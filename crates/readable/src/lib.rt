@@ -9,8 +9,10 @@ ghost use Rattle.lists.specs.Lists.{empty, all, upTo, same};
 ghost use Rattle.protocol.specs.Octets.{token};
 ghost use Rattle.protocol.specs.Readable.{everyone, nameFront, readableAgent, names, characterForms, dueAfter, wellFormed, patternStart, readablePattern};
 ghost use Rattle.protocol.specs.Refusals.{badName};
-ghost use Rattle.readable.specs.Due.{dueRanges, duePast, ordinary, unusual};
+ghost use Rattle.protocol.specs.Classes.{classTable};
+ghost use Rattle.readable.specs.Due.{dueRanges, duePast, unusual};
 use protocol::Place;
+use protocol::Sort;
 
 // The octets that a character still lacks: `more` of them, the next from `low` to `high`, those behind it UTF8-tails.
 struct Due {
@@ -32,43 +34,32 @@ fn never_due() -> Due
     due_octets(1, 0, 1)
 }
 
-// After the first octet of a character: RFC 9309's UTF8-char-noctl.
-fn due_after(x: u8) -> Due
+// After the first octet of a character, by its class number: RFC 9309's UTF8-char-noctl.
+fn due_after(classes: &[u8; 256], x: u8) -> Due
+    requires { ⌜ now classes ≡ classTable ⌝ }
     ensures { λ r. ⌜ dueRanges r ≡ dueAfter x characterForms ⌝ }
 {
-    match x {
-        0x21..=0x22 => due_octets(0, 0, 0),
-        0x24..=0x7F => due_octets(0, 0, 0),
-        0xC2..=0xDF => due_octets(0x80, 0xBF, 1),
-        0xE0 => due_octets(0xA0, 0xBF, 2),
-        0xE1..=0xEC => due_octets(0x80, 0xBF, 2),
-        0xED => due_octets(0x80, 0x9F, 2),
-        0xEE..=0xEF => due_octets(0x80, 0xBF, 2),
-        0xF0 => due_octets(0x90, 0xBF, 3),
-        0xF1..=0xF3 => due_octets(0x80, 0xBF, 3),
-        0xF4 => due_octets(0x80, 0x8F, 3),
+    match octets::class_of(classes, x) {
+        0..=66 => due_octets(0, 0, 0),
+        67..=96 => due_octets(0x80, 0xBF, 1),
+        97 => due_octets(0xA0, 0xBF, 2),
+        98..=111 => due_octets(0x80, 0xBF, 2),
+        112 => due_octets(0x80, 0x9F, 2),
+        113 => due_octets(0x90, 0xBF, 3),
+        114..=116 => due_octets(0x80, 0xBF, 3),
+        117 => due_octets(0x80, 0x8F, 3),
+        226 => due_octets(0, 0, 0),
         _ => never_due(),
     }
 }
 
-fn is_ordinary(x: u8) -> bool
-    ensures { λ r. ⌜ r ≡ ordinary x ⌝ }
-{
-    if x < 0x24 {
-        return false;
-    }
-    x <= 0x7F
-}
-
 // After one octet more.
-fn due_past(due: Due, x: u8) -> Due
+fn due_past(classes: &[u8; 256], due: Due, x: u8) -> Due
+    requires { ⌜ now classes ≡ classTable ⌝ }
     ensures { λ r. ⌜ dueRanges r ≡ duePast (dueRanges due) x ⌝ }
 {
     if due.more == 0 {
-        if is_ordinary(x) {
-            return due;
-        }
-        return due_after(x);
+        return due_after(classes, x);
     }
     if x < due.low {
         return never_due();
@@ -93,8 +84,12 @@ fn well_formed(s: &[u8]) -> bool
 {
     let mut due = due_octets(0, 0, 0);
     let mut i = ordinary_front(s);
+    if i == s.len() {
+        return true;
+    }
+    let classes = octets::classes();
     while i < s.len() {
-        due = due_past(due, s[i]);
+        due = due_past(&classes, due, s[i]);
         i += 1;
     }
     due.more == 0
@@ -121,27 +116,23 @@ pub fn readable_pattern(p: &[u8]) -> bool
 }
 
 // Octets of a crawler's name only, or none.
-fn all_token(s: &[u8]) -> bool
+fn all_token(classes: &[u8; 256], s: &[u8]) -> bool
+    requires { ⌜ now classes ≡ classTable ⌝ }
     ensures { λ r. ⌜ r ≡ all token (now (s .entry)) ⌝ }
 {
-    let mut i = 0;
-    while i < s.len() {
-        if !octets::is_token(s[i]) {
-            return false;
-        }
-        i += 1;
-    }
-    true
+    let front = text::scan(classes, s, Sort::Token, false);
+    front == s.len()
 }
 
 // One or more of them.
-fn is_name(v: &[u8]) -> bool
+fn is_name(classes: &[u8; 256], v: &[u8]) -> bool
+    requires { ⌜ now classes ≡ classTable ⌝ }
     ensures { λ r. ⌜ r ≡ (not (empty (now (v .entry))) && all token (now (v .entry))) ⌝ }
 {
     if v.len() == 0 {
         return false;
     }
-    all_token(v)
+    all_token(classes, v)
 }
 
 // The value "*".
@@ -155,43 +146,47 @@ fn is_everyone(v: &[u8]) -> bool
 }
 
 // No octet of a name stands there: a name that reaches so far ends in front of it.
-fn name_ends(v: &[u8], at: Place) -> bool
+fn name_ends(classes: &[u8; 256], v: &[u8], at: Place) -> bool
+    requires { ⌜ now classes ≡ classTable ⌝ }
     ensures { λ r. ⌜ r ≡ empty (nameFront (drop (at .offset) (now (v .entry)))) ⌝ }
 {
     let i = at.offset;
     if v.len() <= i {
         return true;
     }
-    !octets::is_token(v[i])
+    !octets::is_of(classes, Sort::Token, v[i])
 }
 
-pub fn readable_agent(v: &[u8]) -> bool
+pub fn readable_agent(classes: &[u8; 256], v: &[u8]) -> bool
+    requires { ⌜ now classes ≡ classTable ⌝ }
     ensures { λ r. ⌜ r ≡ readableAgent (now (v .entry)) ⌝ }
 {
     if is_everyone(v) {
         return true;
     }
-    !name_ends(v, Place { offset: 0 })
+    !name_ends(classes, v, Place { offset: 0 })
 }
 
 // An agent's value names a crawler, or "*". Octets that are equal to a name's are a name's, so the one behind them tells the rest.
-pub fn names(value: &[u8], who: &[u8]) -> bool
+pub fn names(classes: &[u8; 256], value: &[u8], who: &[u8]) -> bool
+    requires { ⌜ now classes ≡ classTable ⌝ }
     ensures { λ r. ⌜ r ≡ names (now (value .entry)) (now (who .entry)) ⌝ }
 {
     if is_everyone(value) {
         return is_everyone(who);
     }
-    if !text::same::begins_with(value, who) {
+    if !text::same::begins_with(classes, value, who) {
         return false;
     }
-    if !is_name(who) {
+    if !is_name(classes, who) {
         return false;
     }
-    name_ends(value, Place { offset: who.len() })
+    name_ends(classes, value, Place { offset: who.len() })
 }
 
 // A crawler's name that is refused.
-pub fn is_bad_name(name: &[u8]) -> bool
+pub fn is_bad_name(classes: &[u8; 256], name: &[u8]) -> bool
+    requires { ⌜ now classes ≡ classTable ⌝ }
     ensures { λ r. ⌜ r ≡ badName (now (name .entry)) .given ⌝ }
 {
     if name.len() == 0 {
@@ -200,5 +195,5 @@ pub fn is_bad_name(name: &[u8]) -> bool
     if 64 < name.len() {
         return true;
     }
-    !all_token(name)
+    !all_token(classes, name)
 }

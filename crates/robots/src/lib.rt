@@ -20,7 +20,8 @@ pub extern "C" fn robots_decide_refusal(file: &[u8], name: &[u8], path: &[u8]) -
     ensures { λ r. ⌜ r ≡ decide (now (file .entry)) (now (name .entry)) (now (path .entry)) .refusal ⌝ }
     ensures { λ r. ⌜ ByTable (decideRows (now (file .entry)) (now (name .entry)) (now (path .entry))) r ⌝ }
 {
-    decide::answers::decide_refusal(file, name, path)
+    let classes = octets::classes();
+    decide::answers::decide_refusal(&classes, file, name, path)
 }
 
 // 0 where the path is allowed, 1 where it is disallowed. A refused decision is 1: it fails shut.
@@ -29,7 +30,8 @@ pub extern "C" fn robots_decide_disallow(file: &[u8], name: &[u8], path: &[u8]) 
     ensures { λ r. ⌜ r ≡ sideNumber (decide (now (file .entry)) (now (name .entry)) (now (path .entry)) .side) ⌝ }
     ensures { λ r. ⌜ (r ≡ 1) ↔ Shut (now (file .entry)) (now (name .entry)) (now (path .entry)) ⌝ }
 {
-    let answer = decide::answers::decide(file, name, path);
+    let classes = octets::classes();
+    let answer = decide::answers::decide(&classes, file, name, path);
     let side = answer.side;
     numbers::side_number(side)
 }
@@ -39,7 +41,8 @@ pub extern "C" fn robots_decide_disallow(file: &[u8], name: &[u8], path: &[u8]) 
 pub extern "C" fn robots_decide_line(file: &[u8], name: &[u8], path: &[u8]) -> usize
     ensures { λ r. ⌜ r ≡ decide (now (file .entry)) (now (name .entry)) (now (path .entry)) .line .number ⌝ }
 {
-    let answer = decide::answers::decide(file, name, path);
+    let classes = octets::classes();
+    let answer = decide::answers::decide(&classes, file, name, path);
     answer.line.number
 }
 
@@ -48,7 +51,8 @@ pub extern "C" fn robots_decide_line(file: &[u8], name: &[u8], path: &[u8]) -> u
 pub extern "C" fn robots_decide_place(file: &[u8], name: &[u8], path: &[u8]) -> usize
     ensures { λ r. ⌜ r ≡ decide (now (file .entry)) (now (name .entry)) (now (path .entry)) .place .offset ⌝ }
 {
-    let answer = decide::answers::decide(file, name, path);
+    let classes = octets::classes();
+    let answer = decide::answers::decide(&classes, file, name, path);
     answer.place.offset
 }
 
@@ -58,7 +62,8 @@ pub extern "C" fn robots_decide_length(file: &[u8], name: &[u8], path: &[u8]) ->
     ensures { λ r. ⌜ r ≡ decide (now (file .entry)) (now (name .entry)) (now (path .entry)) .length ⌝ }
     ensures { λ r. ⌜ decide (now (file .entry)) (now (name .entry)) (now (path .entry)) .place .offset + r ≤ length (now (file .entry)) ⌝ }
 {
-    let answer = decide::answers::decide(file, name, path);
+    let classes = octets::classes();
+    let answer = decide::answers::decide(&classes, file, name, path);
     answer.length
 }
 
@@ -67,7 +72,8 @@ pub extern "C" fn robots_decide_length(file: &[u8], name: &[u8], path: &[u8]) ->
 pub extern "C" fn robots_decide_unread(file: &[u8], name: &[u8], path: &[u8]) -> usize
     ensures { λ r. ⌜ r ≡ decide (now (file .entry)) (now (name .entry)) (now (path .entry)) .unread ⌝ }
 {
-    let answer = decide::answers::decide(file, name, path);
+    let classes = octets::classes();
+    let answer = decide::answers::decide(&classes, file, name, path);
     answer.unread
 }
 
@@ -77,7 +83,8 @@ pub extern "C" fn robots_decide_compared(file: &[u8], name: &[u8], path: &[u8]) 
     ensures { λ r. ⌜ r ≡ decide (now (file .entry)) (now (name .entry)) (now (path .entry)) .compared ⌝ }
     ensures { λ r. ⌜ r ≤ total (weightOf (now (file .entry))) (walkedRules (now (file .entry)) (now (name .entry))) * length (normalPath (now (path .entry))) ⌝ }
 {
-    let answer = decide::answers::decide(file, name, path);
+    let classes = octets::classes();
+    let answer = decide::answers::decide(&classes, file, name, path);
     answer.compared
 }
 
@@ -137,14 +144,16 @@ pub extern "C" fn robots_line_refusal(line: &[u8]) -> usize
     ensures { λ r. ⌜ r ≡ refusalOf (lineAnswer (now (line .entry))) ⌝ }
     ensures { λ r. ⌜ ByTable (lineRows (now (line .entry))) r ⌝ }
 {
-    kinds::answers::line_refusal(line)
+    let classes = octets::classes();
+    kinds::answers::line_refusal(&classes, line)
 }
 
 #[no_mangle]
 pub extern "C" fn robots_line_kind(line: &[u8]) -> usize
     ensures { λ r. ⌜ r ≡ kindNumberOf (lineAnswer (now (line .entry))) ⌝ }
 {
-    let answer = kinds::answers::line_answer(line);
+    let classes = octets::classes();
+    let answer = kinds::answers::line_answer(&classes, line);
     numbers::kind_number_of(answer)
 }
 
@@ -152,7 +161,8 @@ pub extern "C" fn robots_line_kind(line: &[u8]) -> usize
 pub extern "C" fn robots_line_place(line: &[u8]) -> usize
     ensures { λ r. ⌜ r ≡ valuePlace (lineAnswer (now (line .entry))) .offset ⌝ }
 {
-    let answer = kinds::answers::line_answer(line);
+    let classes = octets::classes();
+    let answer = kinds::answers::line_answer(&classes, line);
     let place = numbers::value_place(answer);
     place.offset
 }
@@ -161,6 +171,7 @@ pub extern "C" fn robots_line_place(line: &[u8]) -> usize
 pub extern "C" fn robots_line_length(line: &[u8]) -> usize
     ensures { λ r. ⌜ r ≡ valueLength (lineAnswer (now (line .entry))) ⌝ }
 {
-    let answer = kinds::answers::line_answer(line);
+    let classes = octets::classes();
+    let answer = kinds::answers::line_answer(&classes, line);
     numbers::value_length(answer)
 }

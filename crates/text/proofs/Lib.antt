@@ -1,3 +1,4 @@
 pub mod Seeks
 pub mod Comparing
 pub mod Trims
+mod Eights

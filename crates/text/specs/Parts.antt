@@ -2,12 +2,14 @@
 use Prim.Native.Nat.{ℕ}
 use mathlib.Core.Bool.{Bool, not}
 use mathlib.Core.List.{List}
-use lib.Dec.{eqb}
+use lib.Dec.{ltb, eqb}
 use lib.ListN.{length, drop}
 use Rattle.lists.specs.Choice.{if_then_else_}
 use Rattle.lists.specs.Lists.{upTo}
 use Rattle.protocol.specs.declared.Place.{Place}
+use Rattle.protocol.specs.declared.Sort.{Sort}
 use Rattle.protocol.specs.Octets.{within}
+use Rattle.protocol.specs.Classes.{isOf}
 use Rattle.protocol.specs.Lines.{placeAfter}
 
 -- y is the octet x
@@ -21,3 +23,11 @@ among low high inside x = if inside then within low high x else not (within low 
 -- the place of the first octet from p on that passes the test, or the text's end
 abbrev pub firstFrom : (ℕ → Bool) → List ℕ → Place → Place
 firstFrom f s p = placeAfter p (length (upTo f (drop (p .offset) s)))
+
+-- x is of the sort; where `inside` is false, it isn't
+abbrev pub sought : Sort → Bool → ℕ → Bool
+sought s inside x = if inside then isOf s x else not (isOf s x)
+
+-- x is past CR and LF
+abbrev pub past : ℕ → Bool
+past x = ltb 13 x

@@ -3,12 +3,15 @@
 pub mod same; // same.rt: beginnings, ASCII case ignored
 
 ghost use mathlib.Core.Path.{_≡_};
-ghost use lib.ListN.{length};
-ghost use Rattle.lists.specs.Lists.{upTo};
+ghost use Prim.Native.Nat.{_≤_};
+ghost use lib.ListN.{length, drop};
+ghost use Rattle.lists.specs.Lists.{all, any, upTo};
 ghost use Rattle.protocol.specs.Text.{lead, trimEnd};
 ghost use Rattle.protocol.specs.Octets.{lineEnd};
-ghost use Rattle.text.specs.Parts.{among, equals, firstFrom};
+ghost use Rattle.protocol.specs.Classes.{classTable};
+ghost use Rattle.text.specs.Parts.{among, equals, firstFrom, sought, past};
 use protocol::Place;
+use protocol::Sort;
 
 // An octet from low to high, or any other.
 fn is_among(x: u8, low: u8, high: u8, inside: bool) -> bool
@@ -84,12 +87,13 @@ pub fn find(s: &[u8], x: u8) -> usize
 }
 
 // The place of the first CR or LF from `from` on, or the text's end.
-pub fn line_end(s: &[u8], from: Place) -> Place
+pub fn line_end(classes: &[u8; 256], s: &[u8], from: Place) -> Place
+    requires { ⌜ now classes ≡ classTable ⌝ }
     ensures { λ r. ⌜ r ≡ firstFrom lineEnd (now (s .entry)) from ⌝ }
 {
     let mut i = from.offset;
     while i < s.len() {
-        if octets::is_line_end(s[i]) {
+        if octets::is_of(classes, Sort::LineEnd, s[i]) {
             return Place { offset: i };
         }
         let on = i + 1;
@@ -99,13 +103,14 @@ pub fn line_end(s: &[u8], from: Place) -> Place
     Place { offset: i }
 }
 
-// The number of spaces and tabs at the front.
-pub fn lead(s: &[u8]) -> usize
-    ensures { λ r. ⌜ r ≡ lead (now (s .entry)) ⌝ }
+// The octets in front of the first that is of the sort; where `inside` is false, of the first that isn't.
+pub fn scan(classes: &[u8; 256], s: &[u8], sort: Sort, inside: bool) -> usize
+    requires { ⌜ now classes ≡ classTable ⌝ }
+    ensures { λ r. ⌜ r ≡ length (upTo (sought sort inside) (now (s .entry))) ⌝ }
 {
     let mut i = 0;
     while i < s.len() {
-        if !octets::is_blank(s[i]) {
+        if octets::is_of(classes, sort, s[i]) == inside {
             return i;
         }
         i += 1;
@@ -113,16 +118,72 @@ pub fn lead(s: &[u8]) -> usize
     i
 }
 
+// The number of spaces and tabs at the front.
+pub fn lead(classes: &[u8; 256], s: &[u8]) -> usize
+    requires { ⌜ now classes ≡ classTable ⌝ }
+    ensures { λ r. ⌜ r ≡ lead (now (s .entry)) ⌝ }
+{
+    scan(classes, s, Sort::Blank, false)
+}
+
 // The octets that are left without spaces and tabs at the end.
-pub fn trimmed_length(s: &[u8]) -> usize
+pub fn trimmed_length(classes: &[u8; 256], s: &[u8]) -> usize
+    requires { ⌜ now classes ≡ classTable ⌝ }
     ensures { λ r. ⌜ r ≡ length (trimEnd (now (s .entry))) ⌝ }
 {
     let mut n = s.len();
     while 0 < n {
-        if !octets::is_blank(s[n - 1]) {
+        if !octets::is_of(classes, Sort::Blank, s[n - 1]) {
             return n;
         }
         n -= 1;
     }
     n
+}
+
+// None of 8 octets is CR or less. All are looked at, so that the compiler can look at many at a time.
+fn is_past(b: &[u8]) -> bool
+    requires { ⌜ length (now b) ≡ 8 ⌝ }
+    ensures { λ r. ⌜ r ≡ all past (now (b .entry)) ⌝ }
+{
+    (b'\r' < b[0])
+        & (b'\r' < b[1])
+        & (b'\r' < b[2])
+        & (b'\r' < b[3])
+        & (b'\r' < b[4])
+        & (b'\r' < b[5])
+        & (b'\r' < b[6])
+        & (b'\r' < b[7])
+}
+
+// Octets at the front of which none is CR or LF: eights of them, and the last eight.
+fn past_front(s: &[u8]) -> usize
+    ensures { λ r. ⌜ (r ≤ length (now (s .entry))) × (any lineEnd (drop r (now (s .entry))) ≡ any lineEnd (now (s .entry))) ⌝ }
+{
+    if s.len() < 8 {
+        return 0;
+    }
+    let last = s.len() - 8;
+    let mut i = 0;
+    while i < last {
+        let end = i + 8;
+        if !is_past(&s[i..end]) {
+            return i;
+        }
+        i = end;
+    }
+    if is_past(&s[last..]) {
+        return s.len();
+    }
+    i
+}
+
+// Some octet is CR or LF.
+pub fn holds_line_end(classes: &[u8; 256], s: &[u8]) -> bool
+    requires { ⌜ now classes ≡ classTable ⌝ }
+    ensures { λ r. ⌜ r ≡ any lineEnd (now (s .entry)) ⌝ }
+{
+    let front = past_front(s);
+    let rest = &s[front..];
+    scan(classes, rest, Sort::LineEnd, true) < rest.len()
 }

@@ -3,9 +3,11 @@
 ghost use mathlib.Core.Path.{_≡_};
 ghost use lib.ListN.{length, take};
 ghost use Rattle.protocol.specs.Text.{sameIgnoringCase};
+ghost use Rattle.protocol.specs.Classes.{classTable};
 
 // A text begins with a word, ASCII case ignored.
-pub fn begins_with(s: &[u8], word: &[u8]) -> bool
+pub fn begins_with(classes: &[u8; 256], s: &[u8], word: &[u8]) -> bool
+    requires { ⌜ now classes ≡ classTable ⌝ }
     ensures { λ r. ⌜ r ≡ sameIgnoringCase (take (length (now (word .entry))) (now (s .entry))) (now (word .entry)) ⌝ }
 {
     if s.len() < word.len() {
@@ -13,7 +15,7 @@ pub fn begins_with(s: &[u8], word: &[u8]) -> bool
     }
     let mut i = 0;
     while i < word.len() {
-        if octets::lower_case(s[i]) != octets::lower_case(word[i]) {
+        if !octets::is_same(classes, s[i], word[i]) {
             return false;
         }
         i += 1;

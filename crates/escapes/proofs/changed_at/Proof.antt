@@ -38,7 +38,7 @@ shared-slice-read-escape-of-2 c = inside (c .before .before)
 
 escape-of-requires : tie.Need-escape-of-requires
 escape-of-requires c κs =
-    let t = c .before .before in escape-digits (entry t .args .s .now) (entry t .args .at) (escapes t)
+    let t = c .before .before in search (needs, escape-digits (entry t .args .s .now) (entry t .args .at) (escapes t))
 
 returns : tie.Need-returns
 returns c =

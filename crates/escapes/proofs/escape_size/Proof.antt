@@ -8,19 +8,19 @@ use Rattle.escapes.proofs.escape_size.Tie as tie
 octet-meant-requires : tie.Need-octet-meant-requires
 octet-meant-requires c κs = search needs
 
-is-unreserved-requires : tie.Need-is-unreserved-requires
-is-unreserved-requires c κs = search needs
+is-of-requires : tie.Need-is-of-requires
+is-of-requires c κs = search needs
 
 returns : tie.Need-returns
 unfolding escape
 returns c =
-    let u = sym (c .before .is-unreserved .ensures) ∙ c .if1 .taken in rw (← c .before .before .octet-meant .ensures, u)
+    let u = sym (c .before .is-of .ensures) ∙ c .if1 .taken in rw (← c .before .before .octet-meant .ensures, u)
 
 returns-2 : tie.Need-returns-2
 unfolding escape
 returns-2 c =
-    let u = sym (c .before .is-unreserved .ensures) ∙ c .if1 .left in rw (← c .before .before .octet-meant .ensures, u)
+    let u = sym (c .before .is-of .ensures) ∙ c .if1 .left in rw (← c .before .before .octet-meant .ensures, u)
 
 pub escape-size-spec : {M : Type 1} → statement M
 escape-size-spec =
-    tie.close (tie.spec octet-meant-requires is-unreserved-requires returns returns-2)
+    tie.close (tie.spec octet-meant-requires is-of-requires returns returns-2)

@@ -29,38 +29,38 @@ returns-2 c =
     let a = entry (c .before) .args in
     sym (no-digits (getD (a .s .now) (a .at) 0) (drop (a .at + 1) (a .s .now)) (omega (arith, length-drop (a .at + 1) (a .s .now))))
 
-add-is-hex : tie.Need-add-is-hex
-add-is-hex c = search needs
+add-is-of : tie.Need-add-is-of
+add-is-of c = search needs
 
-shared-slice-read-is-hex : tie.Need-shared-slice-read-is-hex
-shared-slice-read-is-hex c = search needs
+shared-slice-read-is-of : tie.Need-shared-slice-read-is-of
+shared-slice-read-is-of c = search needs
 
-is-hex-requires : tie.Need-is-hex-requires
-is-hex-requires c κs = search needs
+is-of-requires : tie.Need-is-of-requires
+is-of-requires c κs = search needs
 
 -- "%" stands there, and two octets behind it: they decide
-decided : (c : tie.After-is-hex) (b : Bool) → c .is-hex .result ≡ b
+decided : (c : tie.After-is-of) (b : Bool) → c .is-of .result ≡ b
     → let a = entry (c .before .before .before) .args in
     isEscape (getD (a .s .now) (a .at) 0) (drop (a .at + 1) (a .s .now)) ≡ (b && hex (getD (a .s .now) (a .at + 2) 0))
 decided c b e =
     let l = c .before .before .before in
-    escape-test (entry l .args .s .now) (entry l .args .at) (omega arith) _ ∙ rw (eq-eqb _ _ (l .if1 .left), sym (c .is-hex .ensures) ∙ e)
+    escape-test (entry l .args .s .now) (entry l .args .at) (omega arith) _ ∙ rw (eq-eqb _ _ (l .if1 .left), sym (c .is-of .ensures) ∙ e)
 
 returns-3 : tie.Need-returns-3
 returns-3 c = sym (decided (c .before) false (not-true _ (c .if3 .taken)))
 
-add-is-hex-2 : tie.Need-add-is-hex-2
-add-is-hex-2 c = search needs
+add-is-of-2 : tie.Need-add-is-of-2
+add-is-of-2 c = search needs
 
-shared-slice-read-is-hex-2 : tie.Need-shared-slice-read-is-hex-2
-shared-slice-read-is-hex-2 c = search needs
+shared-slice-read-is-of-2 : tie.Need-shared-slice-read-is-of-2
+shared-slice-read-is-of-2 c = search needs
 
-is-hex-requires-2 : tie.Need-is-hex-requires-2
-is-hex-requires-2 c κs = search needs
+is-of-requires-2 : tie.Need-is-of-requires-2
+is-of-requires-2 c κs = search needs
 
 returns-4 : tie.Need-returns-4
 returns-4 c =
-    let l = c .before .before in c .is-hex2 .ensures ∙ sym (decided (l .before) true (not-false _ (l .if3 .left)))
+    let l = c .before .before in c .is-of2 .ensures ∙ sym (decided (l .before) true (not-false _ (l .if3 .left)))
 
 pub is-escape-at-spec : {M : Type 1} → statement M
 is-escape-at-spec =
@@ -70,11 +70,11 @@ is-escape-at-spec =
     returns
     sub-if2
     returns-2
-    add-is-hex
-    shared-slice-read-is-hex
-    is-hex-requires
+    add-is-of
+    shared-slice-read-is-of
+    is-of-requires
     returns-3
-    add-is-hex-2
-    shared-slice-read-is-hex-2
-    is-hex-requires-2
+    add-is-of-2
+    shared-slice-read-is-of-2
+    is-of-requires-2
     returns-4)

@@ -47,7 +47,7 @@ shared-slice-read-escape-size-2 c = inside (c .before .before)
 
 escape-size-requires : tie.Need-escape-size-requires
 escape-size-requires c κs =
-    let t = c .before .before in escape-digits (entry t .args .s .now) (entry t .args .at) (escapes t)
+    let t = c .before .before in search (needs, escape-digits (entry t .args .s .now) (entry t .args .at) (escapes t))
 
 returns-2 : tie.Need-returns-2
 returns-2 c =

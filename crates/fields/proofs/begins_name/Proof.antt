@@ -4,6 +4,7 @@ use mathlib.Core.Path.{_≡_, sym, _∙_}
 use mathlib.Core.List.{[]}
 use native.Mathlib.Omega.{arith}
 use lib.ListN.{length, take, getD}
+use borrow.Author.Needs.{needs}
 use lib.Seq.{length-take-le}
 use Rattle.protocol.specs.Text.{octets, sameIgnoringCase}
 use Rattle.fields.specs.Names.{beginsName}
@@ -53,7 +54,7 @@ slice-aggregate-begins-with c =
     let n = c .before .before in sym (length-take-le (size n) (getD fields (row n) []) (name-in n))
 
 begins-with-requires : tie.Need-begins-with-requires
-begins-with-requires c κs = tt
+begins-with-requires c κs = search needs
 
 returns : tie.Need-returns
 unfolding octets

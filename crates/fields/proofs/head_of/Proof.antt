@@ -18,7 +18,7 @@ use Rattle.fields.proofs.head_of.Statement.{statement}
 use Rattle.fields.proofs.head_of.Tie as tie
 
 lead-requires : tie.Need-lead-requires
-lead-requires c κs = tt
+lead-requires c κs = search needs
 
 -- the text, and where the field's name begins
 module _ (c : tie.After-lead) where
@@ -41,7 +41,7 @@ part-field-at-end : tie.Need-part-field-at-end
 part-field-at-end c = search needs
 
 field-at-requires : tie.Need-field-at-requires
-field-at-requires c κs = tt
+field-at-requires c κs = search needs
 
 enum-told : tie.Need-enum-told
 enum-told c = search needs
@@ -94,7 +94,7 @@ part-lead-end : tie.Need-part-lead-end
 part-lead-end c = search needs
 
 lead-requires-2 : tie.Need-lead-requires-2
-lead-requires-2 c κs = tt
+lead-requires-2 c κs = search needs
 
 -- where the colon has to stand
 module _ (c : tie.After-lead2) where
@@ -172,7 +172,7 @@ part-lead-end-2 : tie.Need-part-lead-end-2
 part-lead-end-2 c = search needs
 
 lead-requires-3 : tie.Need-lead-requires-3
-lead-requires-3 c κs = tt
+lead-requires-3 c κs = search needs
 
 add-value : tie.Need-add-value
 add-value c =

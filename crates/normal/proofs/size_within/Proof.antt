@@ -1,38 +1,43 @@
 -- `normal::size_within` meets its contract: the octets measured and those of what is left are the whole's. Assumes nothing.
 use Prim.Native.Nat.{_+_, _-_, _≤_}
-use mathlib.Core.Path.{_≡_, ap}
+use mathlib.Core.Path.{_≡_, refl, ap}
 use native.Mathlib.Omega.{arith}
-use lib.ListN.{length, drop}
+use lib.ListN.{length, drop, getD}
 use borrow.Author.Tests.{lt-leb, le-leb}
-use Rattle.protocol.specs.Normal.{normal}
+use borrow.Author.Needs.{needs}
+use Rattle.protocol.specs.Normal.{replacement, normal}
 use Rattle.normal.specs.Sizes.{sizeWithin}
 use Rattle.normal.proofs.Steps.{Turn, turn, normal-end}
 use Rattle.normal.proofs.size_within.Statement.{statement}
 use Rattle.normal.proofs.size_within.Tie as tie
 
 abbrev Inv-loop : tie.InvT-loop
-Inv-loop stars s room octets₀ i₀ octets i =
-    (i ≤ length s) × ((octets ≤ room) × (octets + length (normal stars 0 (drop i s)) ≡ length (normal stars 0 s)))
+Inv-loop stars s room classes octets₀ i₀ octets i =
+    (octets ≤ room) × (octets + length (normal stars 0 (drop i s)) ≡ length (normal stars 0 s))
 
 abbrev μ-loop : tie.MeasureT-loop
-μ-loop stars s room octets₀ i₀ octets i = length s - i
+μ-loop stars s room classes octets₀ i₀ octets i = length s - i
+
+classes-requires : tie.Need-classes-requires Inv-loop μ-loop
+classes-requires c κs = tt
 
 loop-holds : tie.Need-loop-holds Inv-loop μ-loop
 loop-holds c = omega arith
 
 measure-at-requires : tie.Need-measure-at-requires Inv-loop μ-loop
-measure-at-requires c κs = omega arith
+measure-at-requires c κs = (search needs, omega arith)
 
 abbrev entry : tie.At-loop Inv-loop μ-loop → tie.Start Inv-loop μ-loop
-entry s = s .before .before
+entry s = s .before .before .before
 
 -- the turn over what was measured
 module _ (c : tie.After-measure-at Inv-loop μ-loop) where
   abbrev at : tie.At-loop Inv-loop μ-loop
-  at = c .before .before
+  at = c .before .before .before
 
-  passed : Turn (entry at .args .stars) (entry at .args .s .now) (at .loop .i) (c .measure-at .result)
-  passed = turn _ _ _ (omega arith) _ (c .measure-at .ensures)
+  passed : let a = entry at .args in
+      Turn (a .stars) (a .s .now) (at .loop .i) (replacement (a .stars) (getD (a .s .now) (at .loop .i) 0) (drop (at .loop .i + 1) (a .s .now))) (c .measure-at .result .taken)
+  passed = turn _ _ _ (omega arith) _ _ refl (c .measure-at .ensures .taken)
 
 sub-if1 : tie.Need-sub-if1 Inv-loop μ-loop
 sub-if1 c = omega arith
@@ -73,6 +78,7 @@ size-within-spec =
     (tie.spec
     Inv-loop
     μ-loop
+    classes-requires
     loop-holds
     measure-at-requires
     sub-if1

@@ -1,41 +1,33 @@
 -- `readable::due_past` meets its contract: by what is due, and whether the octet is that. Assumes nothing.
-use mathlib.Core.Path.{sym, ap, _∙_}
+use mathlib.Core.Path.{ap, _∙_}
 use native.Mathlib.Omega.{arith}
 use borrow.Author.Needs.{needs}
 use Rattle.readable.specs.Due.{dueRanges}
-use Rattle.readable.proofs.Characters.{past-none, past-ordinary, past-under, past-over, past-within}
+use Rattle.readable.proofs.Characters.{past-none, past-under, past-over, past-within}
 use Rattle.readable.proofs.due_past.Statement.{statement}
 use Rattle.readable.proofs.due_past.Tie as tie
 
-is-ordinary-requires : tie.Need-is-ordinary-requires
-is-ordinary-requires c κs = tt
+due-after-requires : tie.Need-due-after-requires
+due-after-requires c κs = search needs
 
 returns : tie.Need-returns
 returns c =
-    let a = c .before .before .before .before .args in
-    past-ordinary (a .due .low) (a .due .high) (a .x) (a .due .more) (omega arith) (sym (c .before .is-ordinary .ensures) ∙ c .if2 .taken)
-
-due-after-requires : tie.Need-due-after-requires
-due-after-requires c κs = tt
-
-returns-2 : tie.Need-returns-2
-returns-2 c =
-    let a = c .before .before .before .before .before .args in
+    let a = c .before .before .before .args in
     c .due-after .ensures ∙ past-none (a .due .low) (a .due .high) (a .x) (a .due .more) (omega arith)
 
 never-due-requires : tie.Need-never-due-requires
 never-due-requires c κs = tt
 
-returns-3 : tie.Need-returns-3
-returns-3 c =
+returns-2 : tie.Need-returns-2
+returns-2 c =
     let a = c .before .before .before .before .before .args in
     ap dueRanges (c .never-due .ensures) ∙ past-under (a .due .low) (a .due .high) (a .x) (a .due .more) (λ e. omega arith) (omega arith)
 
 never-due-requires-2 : tie.Need-never-due-requires-2
 never-due-requires-2 c κs = tt
 
-returns-4 : tie.Need-returns-4
-returns-4 c =
+returns-3 : tie.Need-returns-3
+returns-3 c =
     let a = c .before .before .before .before .before .before .before .args in
     ap dueRanges (c .never-due2 .ensures) ∙ past-over (a .due .low) (a .due .high) (a .x) (a .due .more) (λ e. omega arith) (omega arith) (omega arith)
 
@@ -45,8 +37,8 @@ sub-due-octets c = search needs
 due-octets-requires : tie.Need-due-octets-requires
 due-octets-requires c κs = tt
 
-returns-5 : tie.Need-returns-5
-returns-5 c =
+returns-4 : tie.Need-returns-4
+returns-4 c =
     let a = c .before .before .before .before .before .before .before .before .args in
     ap dueRanges (c .due-octets .ensures) ∙ past-within (a .due .low) (a .due .high) (a .x) (a .due .more) (λ e. omega arith) (omega arith) (omega arith)
 
@@ -54,14 +46,12 @@ pub due-past-spec : {M : Type 1} → statement M
 due-past-spec =
     tie.close
     (tie.spec
-    is-ordinary-requires
-    returns
     due-after-requires
-    returns-2
+    returns
     never-due-requires
-    returns-3
+    returns-2
     never-due-requires-2
-    returns-4
+    returns-3
     sub-due-octets
     due-octets-requires
-    returns-5)
+    returns-4)

@@ -10,16 +10,16 @@ use Rattle.readable.proofs.name_ends.Tie as tie
 returns : tie.Need-returns
 returns c = let a = c .before .before .args in sym (ends-none (a .v .now) (a .at .offset) (c .if1 .taken))
 
-shared-slice-read-is-token : tie.Need-shared-slice-read-is-token
-shared-slice-read-is-token c = search needs
+shared-slice-read-is-of : tie.Need-shared-slice-read-is-of
+shared-slice-read-is-of c = search needs
 
-is-token-requires : tie.Need-is-token-requires
-is-token-requires c κs = tt
+is-of-requires : tie.Need-is-of-requires
+is-of-requires c κs = search needs
 
 returns-2 : tie.Need-returns-2
 returns-2 c =
-    let a = c .before .before .before .before .args in ap not (c .is-token .ensures) ∙ sym (ends-here (a .v .now) (a .at .offset) (omega arith))
+    let a = c .before .before .before .before .args in ap not (c .is-of .ensures) ∙ sym (ends-here (a .v .now) (a .at .offset) (omega arith))
 
 pub name-ends-spec : {M : Type 1} → statement M
 name-ends-spec =
-    tie.close (tie.spec returns shared-slice-read-is-token is-token-requires returns-2)
+    tie.close (tie.spec returns shared-slice-read-is-of is-of-requires returns-2)

@@ -7,6 +7,9 @@ use borrow.Author.Needs.{needs}
 use Rattle.robots.proofs.robots_decide_disallow.Statement.{statement}
 use Rattle.robots.proofs.robots_decide_disallow.Tie as tie
 
+classes-requires : tie.Need-classes-requires
+classes-requires c κs = tt
+
 decide-requires : tie.Need-decide-requires
 decide-requires c κs = search needs
 
@@ -16,9 +19,9 @@ side-number-requires c κs = search needs
 returns : tie.Need-returns
 returns c =
     let d = c .before in
-    let a = d .before .before .before .before .args in
+    let a = d .before .before .before .before .before .before .args in
     let e : c .side-number .result ≡ sideNumber (decide (a .file .now) (a .name .now) (a .path .now) .side) = c .side-number .ensures ∙ ap (λ (x : Decision). sideNumber (x .side)) (d .decide .ensures) in
     (e, rw e (decide-number (a .file .now) (a .name .now) (a .path .now)))
 
 pub robots-decide-disallow-spec : {M : Type 1} → statement M
-robots-decide-disallow-spec = tie.close (tie.spec decide-requires side-number-requires returns)
+robots-decide-disallow-spec = tie.close (tie.spec classes-requires decide-requires side-number-requires returns)

@@ -4,6 +4,7 @@ use mathlib.Core.Path.{_≡_, refl, sym, ap, _∙_}
 use mathlib.Core.Bool.{true}
 use mathlib.Core.List.{List}
 use native.Mathlib.Omega.{arith}
+use borrow.Author.Needs.{needs}
 use lib.ListN.{length, drop, getD}
 use Rattle.lists.specs.Lists.{upTo}
 use Rattle.lists.proofs.Scans.{scan-none, scan-stop, scan-on}
@@ -16,19 +17,19 @@ use Rattle.text.proofs.line_end.Statement.{statement}
 use Rattle.text.proofs.line_end.Tie as tie
 
 abbrev Inv-loop : tie.InvT-loop
-Inv-loop s i₀ i = i + length (upTo lineEnd (drop i s)) ≡ i₀ + length (upTo lineEnd (drop i₀ s))
+Inv-loop classes s i₀ i = i + length (upTo lineEnd (drop i s)) ≡ i₀ + length (upTo lineEnd (drop i₀ s))
 
 abbrev μ-loop : tie.MeasureT-loop
-μ-loop s i₀ i = length s - i
+μ-loop classes s i₀ i = length s - i
 
 loop-holds : tie.Need-loop-holds Inv-loop μ-loop
 loop-holds c = refl
 
-shared-slice-read-is-line-end : tie.Need-shared-slice-read-is-line-end Inv-loop μ-loop
-shared-slice-read-is-line-end c = omega arith
+shared-slice-read-is-of : tie.Need-shared-slice-read-is-of Inv-loop μ-loop
+shared-slice-read-is-of c = omega arith
 
-is-line-end-requires : tie.Need-is-line-end-requires Inv-loop μ-loop
-is-line-end-requires c κs = tt
+is-of-requires : tie.Need-is-of-requires Inv-loop μ-loop
+is-of-requires c κs = search needs
 
 -- the text, and where the search has come to
 module _ (l : tie.At-loop Inv-loop μ-loop) where
@@ -39,12 +40,12 @@ module _ (l : tie.At-loop Inv-loop μ-loop) where
   here = l .loop .i
 
 -- the octet there, looked at
-module _ (c : tie.After-is-line-end Inv-loop μ-loop) where
+module _ (c : tie.After-is-of Inv-loop μ-loop) where
   abbrev loop : tie.At-loop Inv-loop μ-loop
   loop = c .before .before .before
 
-  told : lineEnd (getD (text loop) (here loop) 0) ≡ c .is-line-end .result
-  told = sym (c .is-line-end .ensures)
+  told : lineEnd (getD (text loop) (here loop) 0) ≡ c .is-of .result
+  told = sym (c .is-of .ensures)
 
 returns : tie.Need-returns Inv-loop μ-loop
 returns c =
@@ -87,8 +88,8 @@ line-end-spec =
     Inv-loop
     μ-loop
     loop-holds
-    shared-slice-read-is-line-end
-    is-line-end-requires
+    shared-slice-read-is-of
+    is-of-requires
     returns
     add-on
     seek-requires

@@ -13,7 +13,7 @@ unfolding normalPath
 answer-short-requires c κs =
     let p = c .before .before .before .before in
     let a = p .args in
-    (short-file (a .file .now) (a .name .now) (a .path .now) (p .pre), omega (arith, c .if1 .taken, normal-size false 0 (a .path .now)))
+    (search needs, short-file (a .file .now) (a .name .now) (a .path .now) (p .pre .1), omega (arith, c .if1 .taken, normal-size false 0 (a .path .now)))
 
 returns : tie.Need-returns
 returns c = search needs
@@ -22,7 +22,7 @@ answer-long-requires : tie.Need-answer-long-requires
 answer-long-requires c κs =
     let p = c .before .before .before .before in
     let a = p .args in
-    (short-file (a .file .now) (a .name .now) (a .path .now) (p .pre), path-fits (a .file .now) (a .name .now) (a .path .now) (p .pre))
+    (search needs, short-file (a .file .now) (a .name .now) (a .path .now) (p .pre .1), path-fits (a .file .now) (a .name .now) (a .path .now) (p .pre .1))
 
 returns-2 : tie.Need-returns-2
 returns-2 c = search needs

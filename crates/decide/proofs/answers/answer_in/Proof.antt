@@ -13,7 +13,7 @@ use Rattle.decide.proofs.answers.answer_in.Tie as tie
 
 write-requires : tie.Need-write-requires
 unfolding normalPath
-write-requires c κs = c .before .before .before .before .before .before .pre .2
+write-requires c κs = c .before .before .before .before .before .before .pre .3
 
 -- after the path is normalised
 module _ (c : tie.After-write) where
@@ -32,7 +32,7 @@ slice-reshare-prefix-answer-for : tie.Need-slice-reshare-prefix-answer-for
 unfolding normalPath
 slice-reshare-prefix-answer-for c =
     let w = c .before .before in
-    omega (arith, w .write .ensures .0, w .write .kept .1 .1 .0, entry w .pre .2)
+    omega (arith, w .write .ensures .0, w .write .kept .1 .1 .0, entry w .pre .3)
 
 slice-aggregate-answer-for : tie.Need-slice-aggregate-answer-for
 slice-aggregate-answer-for c = sym (length-take-le _ _ (slice-reshare-prefix-answer-for (c .before)))
@@ -41,7 +41,7 @@ answer-for-requires : tie.Need-answer-for-requires
 answer-for-requires c κs =
     let w = c .before .before .before .before in
     let p = entry w .pre in
-    rw (lent w) (p .0, p .1, p .3)
+    rw (lent w) (p .0, p .1, p .2, p .4)
 
 same-length : tie.Need-same-length
 same-length c = search needs

@@ -24,6 +24,9 @@ first-part-requires-2 c κs = search needs
 behind-requires-2 : tie.Need-behind-requires-2
 behind-requires-2 c κs = search needs
 
+classes-requires : tie.Need-classes-requires
+classes-requires c κs = tt
+
 decide-requires : tie.Need-decide-requires
 decide-requires c κs = search needs
 
@@ -32,7 +35,7 @@ answer-line-requires c κs = search needs
 
 returns-2 : tie.Need-returns-2
 returns-2 c =
-    let b = c .before .before in
+    let b = c .before .before .before .before in
     let p = b .before .before .before in
     let input = p .before .before .before .args .input .now in
     rw (output-decided input (omega arith) (b .before .before .first-part .ensures) (p .behind .ensures) (b .before .first-part2 .ensures) (b .behind2 .ensures) (c .before .decide .ensures)) (c .answer-line .ensures)
@@ -47,6 +50,7 @@ output-spec =
     first-part-requires
     first-part-requires-2
     behind-requires-2
+    classes-requires
     decide-requires
     answer-line-requires
     returns-2)

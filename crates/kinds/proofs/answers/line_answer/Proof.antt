@@ -1,12 +1,13 @@
 -- `kinds::answers::line_answer` meets its contract. Assumes nothing.
 use mathlib.Core.Path.{sym, _∙_}
+use borrow.Author.Needs.{needs}
 use Rattle.protocol.proofs.KindAnswer.{line-refusal}
 use Rattle.kinds.proofs.Answering.{refused-answer, kind-answer}
 use Rattle.kinds.proofs.answers.line_answer.Statement.{statement}
 use Rattle.kinds.proofs.answers.line_answer.Tie as tie
 
 line-refusal-requires : tie.Need-line-refusal-requires
-line-refusal-requires c κs = tt
+line-refusal-requires c κs = search needs
 
 returns : tie.Need-returns
 returns c =
@@ -14,7 +15,7 @@ returns c =
     refused-answer line (c .before .line-refusal .result) (c .before .line-refusal .ensures ∙ line-refusal line) (c .if1 .taken)
 
 kind-of-requires : tie.Need-kind-of-requires
-kind-of-requires c κs = tt
+kind-of-requires c κs = search needs
 
 returns-2 : tie.Need-returns-2
 returns-2 c =

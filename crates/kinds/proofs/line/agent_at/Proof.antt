@@ -1,6 +1,7 @@
 -- `kinds::line::agent_at` meets its contract. Assumes nothing.
 use mathlib.Core.Path.{sym, _∙_}
 use native.Mathlib.Omega.{arith}
+use borrow.Author.Needs.{needs}
 use Rattle.kinds.proofs.Kinding.{agent-none, agent-readable, agent-unreadable}
 use Rattle.kinds.proofs.line.agent_at.Statement.{statement}
 use Rattle.kinds.proofs.line.agent_at.Tie as tie
@@ -9,7 +10,7 @@ returns : tie.Need-returns
 returns c = let a = c .before .before .args in agent-none (a .value .now) (a .place) (omega arith)
 
 readable-agent-requires : tie.Need-readable-agent-requires
-readable-agent-requires c κs = tt
+readable-agent-requires c κs = search needs
 
 returns-2 : tie.Need-returns-2
 returns-2 c =

@@ -23,7 +23,7 @@ part-rest-end : tie.Need-part-rest-end
 part-rest-end c = search needs
 
 value-length-requires : tie.Need-value-length-requires
-value-length-requires c κs = tt
+value-length-requires c κs = search needs
 
 -- the octets from the value on, and how many are its
 module _ (c : tie.After-value-length) where
@@ -49,7 +49,7 @@ slice-aggregate-agent-at : tie.Need-slice-aggregate-agent-at
 slice-aggregate-agent-at c = sym (length-take-le (size (c .before)) (rest (c .before)) (size-in (c .before)))
 
 agent-at-requires : tie.Need-agent-at-requires
-agent-at-requires c κs = tt
+agent-at-requires c κs = search needs
 
 returns : tie.Need-returns
 returns c = c .agent-at .ensures ∙ ap (agentAt (value (c .before .before))) (told (c .before .before))

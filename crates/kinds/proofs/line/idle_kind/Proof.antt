@@ -16,7 +16,7 @@ use Rattle.kinds.proofs.line.idle_kind.Statement.{statement}
 use Rattle.kinds.proofs.line.idle_kind.Tie as tie
 
 lead-requires : tie.Need-lead-requires
-lead-requires c κs = tt
+lead-requires c κs = search needs
 
 -- the text, and where its first octet that is neither space nor tab stands
 module _ (c : tie.After-lead) where
@@ -41,22 +41,22 @@ part-rest-start c = start-in c
 part-rest-end : tie.Need-part-rest-end
 part-rest-end c = search needs
 
-field-end-requires : tie.Need-field-end-requires
-field-end-requires c κs = tt
+scan-requires : tie.Need-scan-requires
+scan-requires c κs = search needs
 
 colon-at-requires : tie.Need-colon-at-requires
 colon-at-requires c κs = tt
 
 -- the octets in front of the first colon or stop, and whether that is a colon
 module _ (c : tie.After-colon-at) where
-  abbrev field : tie.After-field-end
+  abbrev field : tie.After-scan
   field = c .before
 
   abbrev led : tie.After-lead
   led = field .before .before
 
   abbrev size : ℕ
-  size = field .field-end .result
+  size = field .scan .result
 
   abbrev rest : List ℕ
   rest = take (length (text led) - start led) (drop (start led) (text led))
@@ -65,13 +65,13 @@ module _ (c : tie.After-colon-at) where
   told = sym (c .colon-at .ensures)
 
   other : begins ":" (drop size rest) ≡ true → Kind.Other ≡ kindOf (lineText (text led))
-  other e = idle-other (text led) (start led) size (led .lead .ensures) (field .field-end .ensures) e (entry led .pre)
+  other e = idle-other (text led) (start led) size (led .lead .ensures) (field .scan .ensures) e (entry led .pre .1)
 
   blank : begins ":" (drop size rest) ≡ false → size ≡ 0 → Kind.Blank ≡ kindOf (lineText (text led))
-  blank = idle-blank (text led) (start led) size (led .lead .ensures) (field .field-end .ensures)
+  blank = idle-blank (text led) (start led) size (led .lead .ensures) (field .scan .ensures)
 
   noise : begins ":" (drop size rest) ≡ false → (size ≡ 0 → ⊥) → Kind.Noise ≡ kindOf (lineText (text led))
-  noise = idle-noise (text led) (start led) size (led .lead .ensures) (field .field-end .ensures)
+  noise = idle-noise (text led) (start led) size (led .lead .ensures) (field .scan .ensures)
 
 returns : tie.Need-returns
 returns c = other (c .before) (told (c .before) ∙ c .if1 .taken)
@@ -90,7 +90,7 @@ idle-kind-spec =
     sub-rest
     part-rest-start
     part-rest-end
-    field-end-requires
+    scan-requires
     colon-at-requires
     returns
     returns-2

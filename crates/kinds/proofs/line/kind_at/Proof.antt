@@ -26,7 +26,7 @@ module _ (c : tie.Start) where
 
 idle-kind-requires : tie.Need-idle-kind-requires
 idle-kind-requires c κs =
-    let s = c .before .before .before in sym (head-field (text s) (head s) (s .pre)) ∙ c .enum-told .given .1
+    let s = c .before .before .before in (search needs, sym (head-field (text s) (head s) (s .pre .1)) ∙ c .enum-told .given .1)
 
 returns : tie.Need-returns
 returns c = c .idle-kind .ensures
@@ -35,13 +35,13 @@ enum-told-2 : tie.Need-enum-told-2
 enum-told-2 c = search needs
 
 agent-of-requires : tie.Need-agent-of-requires
-agent-of-requires c κs = let s = c .before .before .before .before in head-inside (text s) (head s) (s .pre)
+agent-of-requires c κs = let s = c .before .before .before .before in (search needs, head-inside (text s) (head s) (s .pre .1))
 
 returns-2 : tie.Need-returns-2
 returns-2 c =
     let told = c .before in
     let s = told .before .before .before .before in
-    ap Kind.Agent (c .agent-of .ensures) ∙ kind-head (text s) (head s) (s .pre) Field.Agent (told .enum-told2 .given .1)
+    ap Kind.Agent (c .agent-of .ensures) ∙ kind-head (text s) (head s) (s .pre .1) Field.Agent (told .enum-told2 .given .1)
 
 side-of-requires : tie.Need-side-of-requires
 side-of-requires c κs = tt
@@ -52,10 +52,10 @@ module _ (c : tie.After-side-of) where
   start = c .before .before .before .before
 
   rule : Kind.Rule (sideOf (head start .field)) (patternAt (head start .value) (valueAt (head start .value) (text start))) ≡ kindOf (lineText (text start))
-  rule = kind-rule (text start) (head start) (start .pre) (c .before .before .match .keys2) (c .before .match2 .keys2)
+  rule = kind-rule (text start) (head start) (start .pre .1) (c .before .before .match .keys2) (c .before .match2 .keys2)
 
 pattern-of-requires : tie.Need-pattern-of-requires
-pattern-of-requires c κs = let s = start c in head-inside (text s) (head s) (s .pre)
+pattern-of-requires c κs = let s = start c in (search needs, head-inside (text s) (head s) (s .pre .1))
 
 returns-3 : tie.Need-returns-3
 returns-3 c = rw (c .before .side-of .ensures, c .pattern-of .ensures) (rule (c .before))

@@ -30,7 +30,7 @@ ordinary-front-requires : tie.Need-ordinary-front-requires
 ordinary-front-requires c κs = tt
 
 ends-at-requires : tie.Need-ends-at-requires
-ends-at-requires c κs = tt
+ends-at-requires c κs = search needs
 
 -- the octets from the value on, and the ordinary ones in front
 module _ (c : tie.After-ordinary-front) where
@@ -74,7 +74,7 @@ returns c =
     c .pattern-at .ensures ∙ ap (patternAt (place (whole t))) (front-told (whole t) (sym (t .before .ends-at .ensures) ∙ t .if1 .taken))
 
 value-length-requires : tie.Need-value-length-requires
-value-length-requires c κs = tt
+value-length-requires c κs = search needs
 
 -- something is
 module _ (c : tie.After-value-length) where

@@ -1,12 +1,13 @@
 -- `lines::skip::is_quiet` meets its contract: what is found, or what is left, gives the whole answer. Assumes nothing.
 use Prim.Native.Nat.{_+_, _-_, _≤_}
-use mathlib.Core.Path.{_≡_, refl, sym, ap₂, _∙_}
-use mathlib.Core.Bool.{_&&_, and-true, and-false}
+use mathlib.Core.Path.{_≡_, refl, sym, ap, _∙_}
+use mathlib.Core.Bool.{Bool, _&&_, and-true, and-false}
 use mathlib.Core.Logic.{⊎-elim}
 use native.Mathlib.Omega.{arith}
 use lib.Dec.{eqb}
-use lib.ListN.{drop, length-drop}
+use lib.ListN.{drop, getD, length-drop}
 use borrow.Author.Tests.{ne-eqb}
+use Rattle.protocol.specs.Octets.{lineEnd}
 use Rattle.lines.specs.Skips.{quiet}
 use Rattle.lines.proofs.Skips.{quiet-one, quiet-stop, quiet-on}
 use Rattle.lines.proofs.skip.is_quiet.Statement.{statement}
@@ -21,11 +22,11 @@ abbrev μ-loop : tie.MeasureT-loop
 loop-holds : tie.Need-loop-holds Inv-loop μ-loop
 loop-holds c = (omega arith, omega arith, refl)
 
-shared-slice-read-is-line-end : tie.Need-shared-slice-read-is-line-end Inv-loop μ-loop
-shared-slice-read-is-line-end c = omega arith
+shared-slice-read-if1 : tie.Need-shared-slice-read-if1 Inv-loop μ-loop
+shared-slice-read-if1 c = omega arith
 
-is-line-end-requires : tie.Need-is-line-end-requires Inv-loop μ-loop
-is-line-end-requires c κs = tt
+shared-slice-read-if1-2 : tie.Need-shared-slice-read-if1-2 Inv-loop μ-loop
+shared-slice-read-if1-2 c = omega arith
 
 add-may-begin : tie.Need-add-may-begin Inv-loop μ-loop
 add-may-begin c = omega arith
@@ -46,11 +47,12 @@ loop-less : tie.Need-loop-less Inv-loop μ-loop
 loop-less c = omega arith
 
 loop-again : tie.Need-loop-again Inv-loop μ-loop
+unfolding lineEnd
 loop-again c =
     let p = c .before in
     let l = p .before .before .before .before .before in
     let a = l .before .before .args in
-    let test = sym (ap₂ _&&_ (p .before .before .is-line-end .ensures) (p .may-begin .ensures)) in
+    let test = ap (λ (m : Bool). lineEnd (getD (a .b .now) (l .loop .i) 0) && m) (sym (p .may-begin .ensures)) in
     ⊎-elim
     (λ w. (
       omega (arith, w .1),
@@ -80,8 +82,8 @@ is-quiet-spec =
     Inv-loop
     μ-loop
     loop-holds
-    shared-slice-read-is-line-end
-    is-line-end-requires
+    shared-slice-read-if1
+    shared-slice-read-if1-2
     add-may-begin
     shared-slice-read-may-begin
     may-begin-requires

@@ -3,12 +3,13 @@ use Prim.Native.Nat.{ℕ}
 use mathlib.Core.Path.{_≡_, ap, _∙_}
 use mathlib.Core.List.{List}
 use native.Mathlib.Omega.{arith}
+use lib.ListN.{length-drop}
 use borrow.Author.Needs.{needs}
 use Rattle.lists.proofs.Scans.{rest-of}
 use Rattle.protocol.specs.declared.Place.{Place}
 use Rattle.protocol.specs.Lines.{placeAfter, endingLength}
 use Rattle.lines.specs.Spans.{nextAt}
-use Rattle.lines.proofs.Forward.{next-of, next-end, next-inside}
+use Rattle.lines.proofs.Forward.{next-of, ends-there, next-end, next-inside}
 use Rattle.lines.proofs.span.next_place.Statement.{statement}
 use Rattle.lines.proofs.span.next_place.Tie as tie
 
@@ -39,7 +40,9 @@ part-ending-length-end : tie.Need-part-ending-length-end
 part-ending-length-end c = search needs
 
 ending-length-requires : tie.Need-ending-length-requires
-ending-length-requires c κs = search needs
+ending-length-requires c κs =
+    let f = c .before .before in
+    rw (rest-of (end f .offset) (file f)) (simp length-drop (omega arith), ends-there (file f) (from f) (end f) (f .line-end .ensures) (omega arith))
 
 module _ (c : tie.After-ending-length) where
   abbrev found : tie.After-line-end

@@ -18,11 +18,11 @@ use Rattle.passes.proofs.audience.choose_audience.Statement.{statement}
 use Rattle.passes.proofs.audience.choose_audience.Tie as tie
 
 abbrev Inv-loop : tie.InvT-loop
-Inv-loop file name audience₀ at₀ audience at =
+Inv-loop classes file name audience₀ at₀ audience at =
     (audienceLeft file name audience at ≡ Rules.audience file (entries file) name) × (at .number .number ≤ at .place .offset + 1)
 
 abbrev μ-loop : tie.MeasureT-loop
-μ-loop file name audience₀ at₀ audience at = length file - at .place .offset
+μ-loop classes file name audience₀ at₀ audience at = length file - at .place .offset
 
 first-line-requires : tie.Need-first-line-requires Inv-loop μ-loop
 first-line-requires c κs = tt
@@ -50,7 +50,7 @@ module _ (c : tie.Then1 Inv-loop μ-loop) where
   inside = c .if1 .taken
 
 line-audience-requires : tie.Need-line-audience-requires Inv-loop μ-loop
-line-audience-requires c κs = omega (arith, inside c)
+line-audience-requires c κs = (search needs, omega (arith, inside c))
 
 enum-told : tie.Need-enum-told Inv-loop μ-loop
 enum-told c = search needs
@@ -69,7 +69,7 @@ pass-requires : tie.Need-pass-requires Inv-loop μ-loop
 pass-requires c κs = let t = c .before .before .before in (omega (arith, inside t), turn t .loop .inv .1)
 
 next-place-requires : tie.Need-next-place-requires Inv-loop μ-loop
-next-place-requires c κs = tt
+next-place-requires c κs = search needs
 
 -- past some lines
 module _ (c : tie.After-next-place Inv-loop μ-loop) where

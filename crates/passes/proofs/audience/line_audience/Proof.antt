@@ -41,7 +41,7 @@ kind-known c =
     rw (rest-of (a .at .offset) (a .file .now)) at (c .kind-at .ensures)
 
 value-of-requires : tie.Need-value-of-requires
-value-of-requires c κs = (c .before .before .before .before .before .before .before .pre, kind-known c)
+value-of-requires c κs = (c .before .before .before .before .before .before .before .pre .1, kind-known c)
 
 addressed-requires : tie.Need-addressed-requires
 addressed-requires c κs = search needs

@@ -20,11 +20,11 @@ use Rattle.passes.proofs.gather.gather.Statement.{statement}
 use Rattle.passes.proofs.gather.gather.Tie as tie
 
 abbrev Inv-loop : tie.InvT-loop
-Inv-loop file audience name path scratch₀ heard₀ considered₀ at₀ scratch heard considered at =
+Inv-loop classes file audience name path scratch₀ heard₀ considered₀ at₀ scratch heard considered at =
     Reached file (whom audience name) path scratch₀ scratch heard considered at (gathered file name audience path)
 
 abbrev μ-loop : tie.MeasureT-loop
-μ-loop file audience name path scratch₀ heard₀ considered₀ at₀ scratch heard considered at = length file - at .place .offset
+μ-loop classes file audience name path scratch₀ heard₀ considered₀ at₀ scratch heard considered at = length file - at .place .offset
 
 nothing-heard-requires : tie.Need-nothing-heard-requires Inv-loop μ-loop
 nothing-heard-requires c κs = tt
@@ -74,7 +74,7 @@ part-kind-of-end : tie.Need-part-kind-of-end Inv-loop μ-loop
 part-kind-of-end c = omega (arith, inside c)
 
 kind-of-requires : tie.Need-kind-of-requires Inv-loop μ-loop
-kind-of-requires c κs = tt
+kind-of-requires c κs = search needs
 
 -- its kind
 module _ (c : tie.After-kind-of Inv-loop μ-loop) where
@@ -88,13 +88,13 @@ pass-line-requires : tie.Need-pass-line-requires Inv-loop μ-loop
 pass-line-requires c κs = let l = line c in (inside l, turn l .loop .inv .counted, kind-known c)
 
 next-place-requires : tie.Need-next-place-requires Inv-loop μ-loop
-next-place-requires c κs = tt
+next-place-requires c κs = entry (line (c .before)) .pre .0
 
 next-line-requires : tie.Need-next-line-requires Inv-loop μ-loop
 next-line-requires c κs =
     let past = c .before .pass-line .ensures in
     let l = line (c .before .before) in
-    omega (arith, past .counted, next-inside (file l) (c .before .pass-line .result .place) (past .inside), entry l .pre .0)
+    omega (arith, past .counted, next-inside (file l) (c .before .pass-line .result .place) (past .inside), entry l .pre .1)
 
 -- the next line, behind those that are passed
 module _ (c : tie.After-next-line Inv-loop μ-loop) where
@@ -122,7 +122,7 @@ hear-other-requires : tie.Need-hear-other-requires Inv-loop μ-loop
 hear-other-requires c κs =
     let k = told (c .before) in
     let l = line k in
-    (omega (arith, inside l), kind-known k, omega (arith, turn l .loop .inv .unread, inside l, entry l .pre .0))
+    (entry l .pre .0, omega (arith, inside l), kind-known k, omega (arith, turn l .loop .inv .unread, inside l, entry l .pre .1))
 
 loop-less : tie.Need-loop-less Inv-loop μ-loop
 loop-less c = less (c .before .before)
@@ -144,10 +144,10 @@ consider-rule-requires c κs =
     let s = entry l in (
       sym (c .before .before .kind .given .1) ∙ kind-known k,
       record {
-        size = s .pre .0;
+        size = s .pre .1;
         inside = omega (arith, inside l);
-        short = s .pre .1;
-        lent = omega (arith, s .pre .2, t .inv .same);
+        short = s .pre .2;
+        lent = omega (arith, s .pre .3, t .inv .same);
         compared = t .inv .compared;
       },
     )
@@ -158,7 +158,7 @@ is-unread-rule-requires c κs = tt
 hear-rule-requires : tie.Need-hear-rule-requires Inv-loop μ-loop
 hear-rule-requires c κs =
     let l = line (told (c .before .before .before .before .before .before .before .before)) in
-    omega (arith, turn l .loop .inv .unread, inside l, entry l .pre .0)
+    omega (arith, turn l .loop .inv .unread, inside l, entry l .pre .1)
 
 loop-less-2 : tie.Need-loop-less-2 Inv-loop μ-loop
 loop-less-2 c = less (c .before .before .before .before .before .before .before .before .before)
@@ -173,7 +173,7 @@ loop-again-2 c =
     let t = turn l .loop in
     let ruled = c .before .before .before .before .before .before .before .kind in
     let done = c .before .before .before .before .consider-rule in
-    reached-rule (file l) (whom (a .audience) (a .name .now)) (a .path .now) (a .scratch .now) (t .scratch) (t .h) (t .c) (at l) _ (t .inv) (inside l) (over n) (passed n) _ (next-known n) _ (kind-known k) (ruled .given .0 .0) (ruled .given .0 .1 .0) (ruled .given .1) (s .pre .1) _ (c .before .is-unread-rule .ensures) _ (c .hear-rule .ensures) _ (done .ensures .0) _ (done .ensures .1)
+    reached-rule (file l) (whom (a .audience) (a .name .now)) (a .path .now) (a .scratch .now) (t .scratch) (t .h) (t .c) (at l) _ (t .inv) (inside l) (over n) (passed n) _ (next-known n) _ (kind-known k) (ruled .given .0 .0) (ruled .given .0 .1 .0) (ruled .given .1) (s .pre .2) _ (c .before .is-unread-rule .ensures) _ (c .hear-rule .ensures) _ (done .ensures .0) _ (done .ensures .1)
 
 same-length : tie.Need-same-length Inv-loop μ-loop
 same-length c = c .before .before .loop .inv .same

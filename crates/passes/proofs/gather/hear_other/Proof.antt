@@ -17,7 +17,7 @@ returns c =
 value-of-requires : tie.Need-value-of-requires
 value-of-requires c κs =
     let s = c .before .before .before .before .before in
-    (s .pre .0, sym (c .before .kind .given .1) ∙ s .pre .1)
+    (s .pre .1, sym (c .before .kind .given .1) ∙ s .pre .2)
 
 is-unread-agent-requires : tie.Need-is-unread-agent-requires
 is-unread-agent-requires c κs = search needs
@@ -32,7 +32,7 @@ returns-2 c =
     let s = v .before .before .before .before .before .before in
     let a = s .args in
     c .hear-agent .ensures
-    ∙ agent-heard (a .file .now) (whom (a .audience) (a .name .now)) (a .at) (s .pre .0) (a .kind) (s .pre .1) (k .given .0 .0) (k .given .1) _ (v .value-of .ensures) _ (c .before .is-unread-agent .ensures) (a .h)
+    ∙ agent-heard (a .file .now) (whom (a .audience) (a .name .now)) (a .at) (s .pre .1) (a .kind) (s .pre .2) (k .given .0 .0) (k .given .1) _ (v .value-of .ensures) _ (c .before .is-unread-agent .ensures) (a .h)
 
 pub hear-other-spec : {M : Type 1} → statement M
 hear-other-spec =

@@ -3,6 +3,8 @@ use Prim.Native.Nat.{ℕ, _-_, _≤_}
 use mathlib.Core.Path.{_≡_, refl, sym, _∙_}
 use mathlib.Core.List.{List}
 use native.Mathlib.Omega.{arith}
+use borrow.Author.Needs.{needs}
+use borrow.Author.Tests.{eqb-true, eqb-false, not-true, not-false}
 use lib.ListN.{length, take, getD}
 use Rattle.protocol.specs.Octets.{lowerCase}
 use Rattle.protocol.specs.Text.{sameIgnoringCase}
@@ -11,10 +13,10 @@ use Rattle.text.proofs.same.begins_with.Statement.{statement}
 use Rattle.text.proofs.same.begins_with.Tie as tie
 
 abbrev Inv-loop : tie.InvT-loop
-Inv-loop s word i₀ i = (length word ≤ length s) × (beginsFrom i s word ≡ sameIgnoringCase (take (length word) s) word)
+Inv-loop classes s word i₀ i = (length word ≤ length s) × (beginsFrom i s word ≡ sameIgnoringCase (take (length word) s) word)
 
 abbrev μ-loop : tie.MeasureT-loop
-μ-loop s word i₀ i = length word - i
+μ-loop classes s word i₀ i = length word - i
 
 returns : tie.Need-returns Inv-loop μ-loop
 returns c = let a = c .before .before .before .args in case-short (a .s .now) (a .word .now) (c .if1 .taken)
@@ -23,17 +25,14 @@ loop-holds : tie.Need-loop-holds Inv-loop μ-loop
 unfolding sameIgnoringCase
 loop-holds c = (omega arith, refl)
 
-shared-slice-read-lower-case : tie.Need-shared-slice-read-lower-case Inv-loop μ-loop
-shared-slice-read-lower-case c = omega arith
+shared-slice-read-is-same : tie.Need-shared-slice-read-is-same Inv-loop μ-loop
+shared-slice-read-is-same c = omega arith
 
-lower-case-requires : tie.Need-lower-case-requires Inv-loop μ-loop
-lower-case-requires c κs = tt
+shared-slice-read-is-same-2 : tie.Need-shared-slice-read-is-same-2 Inv-loop μ-loop
+shared-slice-read-is-same-2 c = omega arith
 
-shared-slice-read-lower-case-2 : tie.Need-shared-slice-read-lower-case-2 Inv-loop μ-loop
-shared-slice-read-lower-case-2 c = omega arith
-
-lower-case-requires-2 : tie.Need-lower-case-requires-2 Inv-loop μ-loop
-lower-case-requires-2 c κs = tt
+is-same-requires : tie.Need-is-same-requires Inv-loop μ-loop
+is-same-requires c κs = search needs
 
 -- the text and the word, and where the comparison has come to
 module _ (l : tie.At-loop Inv-loop μ-loop) where
@@ -46,22 +45,23 @@ module _ (l : tie.At-loop Inv-loop μ-loop) where
   abbrev here : ℕ
   here = l .loop .i
 
--- the two octets there, in lower case
-module _ (c : tie.After-lower-case2 Inv-loop μ-loop) where
+-- the two octets there, compared
+module _ (c : tie.After-is-same Inv-loop μ-loop) where
   abbrev loop : tie.At-loop Inv-loop μ-loop
-  loop = c .before .before .before .before .before
+  loop = c .before .before .before .before
 
-  first : c .before .before .lower-case .result ≡ lowerCase (getD (text loop) (here loop) 0)
-  first = c .before .before .lower-case .ensures
+  abbrev first : ℕ
+  first = lowerCase (getD (text loop) (here loop) 0)
 
-  second : c .lower-case2 .result ≡ lowerCase (getD (word loop) (here loop) 0)
-  second = c .lower-case2 .ensures
+  abbrev second : ℕ
+  second = lowerCase (getD (word loop) (here loop) 0)
 
 returns-2 : tie.Need-returns-2 Inv-loop μ-loop
 returns-2 c =
     let b = c .before in
     let l = loop b in
-    sym (case-other (text l) (word l) (l .loop .inv .0) (here l) (omega arith) (λ e. c .if2 .taken (first b ∙ e ∙ sym (second b)))) ∙ l .loop .inv .1
+    let other = eqb-false (first b) (second b) (sym (b .is-same .ensures) ∙ not-true (b .is-same .result) (c .if2 .taken)) in
+    sym (case-other (text l) (word l) (l .loop .inv .0) (here l) (omega arith) other) ∙ l .loop .inv .1
 
 add-i : tie.Need-add-i Inv-loop μ-loop
 add-i c = omega arith
@@ -73,7 +73,8 @@ loop-again : tie.Need-loop-again Inv-loop μ-loop
 loop-again c =
     let b = c .before in
     let l = loop b in
-    (l .loop .inv .0, sym (case-on (text l) (word l) (l .loop .inv .0) (here l) (omega arith) (sym (first b) ∙ c .if2 .left ∙ second b)) ∙ l .loop .inv .1)
+    let one = eqb-true (first b) (second b) (sym (b .is-same .ensures) ∙ not-false (b .is-same .result) (c .if2 .left)) in
+    (l .loop .inv .0, sym (case-on (text l) (word l) (l .loop .inv .0) (here l) (omega arith) one) ∙ l .loop .inv .1)
 
 returns-3 : tie.Need-returns-3 Inv-loop μ-loop
 returns-3 c =
@@ -87,10 +88,9 @@ begins-with-spec =
     μ-loop
     returns
     loop-holds
-    shared-slice-read-lower-case
-    lower-case-requires
-    shared-slice-read-lower-case-2
-    lower-case-requires-2
+    shared-slice-read-is-same
+    shared-slice-read-is-same-2
+    is-same-requires
     returns-2
     add-i
     loop-less
