@@ -11,9 +11,10 @@ ghost use Rattle.protocol.specs.Classes.{classTable};
 ghost use Rattle.protocol.specs.Answers.{decide};
 ghost use Rattle.passes.specs.Entries.{audienceFor};
 use protocol::Audience;
+use protocol::ClassTable;
 use protocol::Decision;
 
-pub fn decide_refusal(classes: &[u8; 256], file: &[u8], name: &[u8], path: &[u8]) -> usize
+pub fn decide_refusal(classes: &ClassTable, file: &[u8], name: &[u8], path: &[u8]) -> usize
     requires { ⌜ now classes ≡ classTable ⌝ }
     ensures { λ r. ⌜ r ≡ decideRefusal (now (file .entry)) (now (name .entry)) (now (path .entry)) ⌝ }
 {
@@ -27,7 +28,7 @@ pub fn decide_refusal(classes: &[u8; 256], file: &[u8], name: &[u8], path: &[u8]
 }
 
 // Whose groups apply for a normalised path: nobody's for /robots.txt, which is always allowed.
-fn audience_for(classes: &[u8; 256], file: &[u8], name: &[u8], path: &[u8]) -> Audience
+fn audience_for(classes: &ClassTable, file: &[u8], name: &[u8], path: &[u8]) -> Audience
     requires { ⌜ now classes ≡ classTable ⌝ }
     ensures { λ r. ⌜ r ≡ audienceFor (now (file .entry)) (now (name .entry)) (now (path .entry)) ⌝ }
 {
@@ -39,7 +40,7 @@ fn audience_for(classes: &[u8; 256], file: &[u8], name: &[u8], path: &[u8]) -> A
 
 // The answer about a normalised path, with memory for the runs of patterns.
 fn answer_for(
-    classes: &[u8; 256],
+    classes: &ClassTable,
     file: &[u8],
     name: &[u8],
     path: &[u8],
@@ -56,7 +57,7 @@ fn answer_for(
 
 // The answer where nothing is refused, with memory for the normalised path too.
 fn answer_in(
-    classes: &[u8; 256],
+    classes: &ClassTable,
     file: &[u8],
     name: &[u8],
     path: &[u8],
@@ -71,7 +72,7 @@ fn answer_in(
 }
 
 // Room for a normalised path of at most 384 octets: to clear more would take longer than to decide by a small file.
-fn answer_short(classes: &[u8; 256], file: &[u8], name: &[u8], path: &[u8]) -> Decision
+fn answer_short(classes: &ClassTable, file: &[u8], name: &[u8], path: &[u8]) -> Decision
     requires { ⌜ (now classes ≡ classTable) × (length (now file) ≤ 512000) × (length (normalPath (now path)) ≤ 384) ⌝ }
     ensures { λ r. ⌜ r ≡ answered (now (file .entry)) (entries (now (file .entry))) (now (name .entry)) (normalPath (now (path .entry))) ⌝ }
 {
@@ -81,7 +82,7 @@ fn answer_short(classes: &[u8; 256], file: &[u8], name: &[u8], path: &[u8]) -> D
 }
 
 // Room for the longest normalised path.
-fn answer_long(classes: &[u8; 256], file: &[u8], name: &[u8], path: &[u8]) -> Decision
+fn answer_long(classes: &ClassTable, file: &[u8], name: &[u8], path: &[u8]) -> Decision
     requires { ⌜ (now classes ≡ classTable) × (length (now file) ≤ 512000) × (length (normalPath (now path)) ≤ 6142) ⌝ }
     ensures { λ r. ⌜ r ≡ answered (now (file .entry)) (entries (now (file .entry))) (now (name .entry)) (normalPath (now (path .entry))) ⌝ }
 {
@@ -91,7 +92,7 @@ fn answer_long(classes: &[u8; 256], file: &[u8], name: &[u8], path: &[u8]) -> De
 }
 
 // The answer where nothing is refused.
-fn answer(classes: &[u8; 256], file: &[u8], name: &[u8], path: &[u8]) -> Decision
+fn answer(classes: &ClassTable, file: &[u8], name: &[u8], path: &[u8]) -> Decision
     requires { ⌜ (now classes ≡ classTable) × (decideRefusal (now file) (now name) (now path) ≡ 0) ⌝ }
     ensures { λ r. ⌜ r ≡ answered (now (file .entry)) (entries (now (file .entry))) (now (name .entry)) (normalPath (now (path .entry))) ⌝ }
 {
@@ -101,7 +102,7 @@ fn answer(classes: &[u8; 256], file: &[u8], name: &[u8], path: &[u8]) -> Decisio
     answer_long(classes, file, name, path)
 }
 
-pub fn decide(classes: &[u8; 256], file: &[u8], name: &[u8], path: &[u8]) -> Decision
+pub fn decide(classes: &ClassTable, file: &[u8], name: &[u8], path: &[u8]) -> Decision
     requires { ⌜ now classes ≡ classTable ⌝ }
     ensures { λ r. ⌜ r ≡ decide (now (file .entry)) (now (name .entry)) (now (path .entry)) ⌝ }
 {

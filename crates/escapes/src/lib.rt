@@ -9,6 +9,7 @@ ghost use Rattle.protocol.specs.Octets.{hex};
 ghost use Rattle.protocol.specs.Classes.{classTable};
 ghost use Rattle.protocol.specs.Normal.{meant, escape, isEscape};
 ghost use Rattle.escapes.specs.Escapes.{kept, octetsOf, Encoded, Escaped, ChangedAt, MeasureAt};
+use protocol::ClassTable;
 use protocol::Sort;
 
 // What stands for one octet of a text, or for one escape: `first` alone or all three, and how many octets of the text it takes.
@@ -56,7 +57,7 @@ pub fn is_kept(stars: bool, x: u8) -> bool
 }
 
 // The octet that two hex digits mean.
-fn octet_meant(classes: &[u8; 256], d: u8, e: u8) -> u8
+fn octet_meant(classes: &ClassTable, d: u8, e: u8) -> u8
     requires { ⌜ (now classes ≡ classTable) × (hex d ≡ true) × (hex e ≡ true) ⌝ }
     ensures { λ r. ⌜ r ≡ meant d e ⌝ }
 {
@@ -64,7 +65,7 @@ fn octet_meant(classes: &[u8; 256], d: u8, e: u8) -> u8
 }
 
 // An escape, by its two hex digits.
-fn escape_of(classes: &[u8; 256], d: u8, e: u8) -> Replacement
+fn escape_of(classes: &ClassTable, d: u8, e: u8) -> Replacement
     requires { ⌜ (now classes ≡ classTable) × (hex d ≡ true) × (hex e ≡ true) ⌝ }
     ensures { λ r. ⌜ Escaped d e r ⌝ }
 {
@@ -89,7 +90,7 @@ fn escape_of(classes: &[u8; 256], d: u8, e: u8) -> Replacement
 }
 
 // "%" and two hex digits stand at a place.
-fn is_escape_at(classes: &[u8; 256], s: &[u8], at: usize) -> bool
+fn is_escape_at(classes: &ClassTable, s: &[u8], at: usize) -> bool
     requires { ⌜ (now classes ≡ classTable) × (at < length (now s)) ⌝ }
     ensures { λ r. ⌜ r ≡ isEscape (getD (now (s .entry)) at 0) (drop (at + 1) (now (s .entry))) ⌝ }
 {
@@ -106,7 +107,7 @@ fn is_escape_at(classes: &[u8; 256], s: &[u8], at: usize) -> bool
 }
 
 // What stands for an octet that doesn't stay as it is, and for the digits of its escape.
-pub fn changed_at(classes: &[u8; 256], s: &[u8], at: usize) -> Replacement
+pub fn changed_at(classes: &ClassTable, s: &[u8], at: usize) -> Replacement
     requires { ⌜ (now classes ≡ classTable) × (at < length (now s)) ⌝ }
     ensures { λ r. ⌜ ChangedAt (getD (now (s .entry)) at 0) (drop (at + 1) (now (s .entry))) r ⌝ }
 {
@@ -131,7 +132,7 @@ pub fn put(p: Replacement, out: &mut [u8], at: usize) -> usize
 }
 
 // How many octets an escape comes to, by its two hex digits.
-fn escape_size(classes: &[u8; 256], d: u8, e: u8) -> usize
+fn escape_size(classes: &ClassTable, d: u8, e: u8) -> usize
     requires { ⌜ (now classes ≡ classTable) × (hex d ≡ true) × (hex e ≡ true) ⌝ }
     ensures { λ r. ⌜ r ≡ length (escape d e) ⌝ }
 {
@@ -143,7 +144,7 @@ fn escape_size(classes: &[u8; 256], d: u8, e: u8) -> usize
 }
 
 // How much stands for the octet at a place, and for the digits of its escape.
-pub fn measure_at(classes: &[u8; 256], stars: bool, s: &[u8], at: usize) -> Measure
+pub fn measure_at(classes: &ClassTable, stars: bool, s: &[u8], at: usize) -> Measure
     requires { ⌜ (now classes ≡ classTable) × (at < length (now s)) ⌝ }
     ensures { λ r. ⌜ MeasureAt stars (getD (now (s .entry)) at 0) (drop (at + 1) (now (s .entry))) r ⌝ }
 {

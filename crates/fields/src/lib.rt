@@ -9,6 +9,7 @@ ghost use Rattle.protocol.specs.Classes.{classTable};
 ghost use Rattle.text.specs.Parts.{equals};
 ghost use Rattle.fields.specs.Fields.{headOf};
 ghost use Rattle.fields.specs.Names.{nameLength, rowOf, beginsName, fieldAt};
+use protocol::ClassTable;
 use protocol::FIELDS;
 use protocol::Place;
 
@@ -58,7 +59,7 @@ fn name_length(field: Field) -> usize
 }
 
 // A text begins with the field's name, ASCII case ignored.
-fn begins_name(classes: &[u8; 256], s: &[u8], field: Field) -> bool
+fn begins_name(classes: &ClassTable, s: &[u8], field: Field) -> bool
     requires { ⌜ now classes ≡ classTable ⌝ }
     ensures { λ r. ⌜ r ≡ beginsName field (now (s .entry)) ⌝ }
 {
@@ -69,7 +70,7 @@ fn begins_name(classes: &[u8; 256], s: &[u8], field: Field) -> bool
 }
 
 // The field whose name a text begins with, ASCII case ignored.
-fn field_at(classes: &[u8; 256], s: &[u8]) -> Field
+fn field_at(classes: &ClassTable, s: &[u8]) -> Field
     requires { ⌜ now classes ≡ classTable ⌝ }
     ensures { λ r. ⌜ r ≡ fieldAt (now (s .entry)) ⌝ }
 {
@@ -106,7 +107,7 @@ fn no_head() -> Head
 }
 
 // The head of the line that a text begins with.
-pub fn head_of(classes: &[u8; 256], r: &[u8]) -> Head
+pub fn head_of(classes: &ClassTable, r: &[u8]) -> Head
     requires { ⌜ now classes ≡ classTable ⌝ }
     ensures { λ h. ⌜ h ≡ headOf (now (r .entry)) ⌝ }
 {

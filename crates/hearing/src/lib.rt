@@ -9,6 +9,7 @@ ghost use Rattle.protocol.specs.Readable.{everyone, names};
 ghost use Rattle.protocol.specs.Classes.{classTable};
 ghost use Rattle.hearing.specs.Heard.{nothingHeard, whom, addressed, afterAgent, afterRule};
 use protocol::Audience;
+use protocol::ClassTable;
 
 // After some agent and rule lines: the rules of the group above apply; an agent line here would join the group above; the unreadable lines.
 pub struct Hearing {
@@ -29,7 +30,7 @@ pub fn nothing_heard() -> Hearing
 }
 
 // An agent's value names "*".
-fn names_everyone(classes: &[u8; 256], value: &[u8]) -> bool
+fn names_everyone(classes: &ClassTable, value: &[u8]) -> bool
     requires { ⌜ now classes ≡ classTable ⌝ }
     ensures { λ r. ⌜ r ≡ names (now (value .entry)) everyone ⌝ }
 {
@@ -38,7 +39,7 @@ fn names_everyone(classes: &[u8; 256], value: &[u8]) -> bool
 }
 
 // Whom an agent's value names: the crawler, "*", or neither.
-pub fn addressed(classes: &[u8; 256], name: &[u8], value: &[u8]) -> Audience
+pub fn addressed(classes: &ClassTable, name: &[u8], value: &[u8]) -> Audience
     requires { ⌜ now classes ≡ classTable ⌝ }
     ensures { λ r. ⌜ r ≡ addressed (now (name .entry)) (now (value .entry)) ⌝ }
 {
@@ -52,7 +53,7 @@ pub fn addressed(classes: &[u8; 256], name: &[u8], value: &[u8]) -> Audience
 }
 
 // An agent's value names those whose groups apply.
-fn is_addressed(classes: &[u8; 256], audience: Audience, name: &[u8], value: &[u8]) -> bool
+fn is_addressed(classes: &ClassTable, audience: Audience, name: &[u8], value: &[u8]) -> bool
     requires { ⌜ now classes ≡ classTable ⌝ }
     ensures { λ r. ⌜ r ≡ names (now (value .entry)) (whom audience (now (name .entry))) ⌝ }
 {
@@ -72,7 +73,7 @@ fn joins_applying(h: Hearing) -> bool
 
 // The group that an agent line starts or joins applies.
 fn group_applies(
-    classes: &[u8; 256],
+    classes: &ClassTable,
     h: Hearing,
     audience: Audience,
     name: &[u8],
@@ -97,7 +98,7 @@ fn unread_after(unread: usize, unreadable: bool) -> usize
 
 // After an agent line with that value, which is unreadable or not.
 pub fn hear_agent(
-    classes: &[u8; 256],
+    classes: &ClassTable,
     h: Hearing,
     audience: Audience,
     name: &[u8],

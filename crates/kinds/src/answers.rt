@@ -3,9 +3,10 @@
 ghost use mathlib.Core.Path.{_≡_};
 ghost use Rattle.protocol.specs.Answers.{lineAnswer, refusalOf};
 ghost use Rattle.protocol.specs.Classes.{classTable};
+use protocol::ClassTable;
 use protocol::LineAnswer;
 
-pub fn line_refusal(classes: &[u8; 256], line: &[u8]) -> usize
+pub fn line_refusal(classes: &ClassTable, line: &[u8]) -> usize
     requires { ⌜ now classes ≡ classTable ⌝ }
     ensures { λ r. ⌜ r ≡ refusalOf (lineAnswer (now (line .entry))) ⌝ }
 {
@@ -18,7 +19,7 @@ pub fn line_refusal(classes: &[u8; 256], line: &[u8]) -> usize
     0
 }
 
-pub fn line_answer(classes: &[u8; 256], line: &[u8]) -> LineAnswer
+pub fn line_answer(classes: &ClassTable, line: &[u8]) -> LineAnswer
     requires { ⌜ now classes ≡ classTable ⌝ }
     ensures { λ r. ⌜ r ≡ lineAnswer (now (line .entry)) ⌝ }
 {

@@ -14,6 +14,7 @@ ghost use Rattle.fields.specs.Fields.{fieldOf, sideOf, headOf, ended, valueAt};
 use fields::Field;
 use fields::Head;
 use protocol::Agent;
+use protocol::ClassTable;
 use protocol::Kind;
 use protocol::Pattern;
 use protocol::Place;
@@ -21,7 +22,7 @@ use protocol::Side;
 use protocol::Sort;
 
 // The agent of a value, which stands at that place of the line.
-fn agent_at(classes: &[u8; 256], place: Place, value: &[u8]) -> Agent
+fn agent_at(classes: &ClassTable, place: Place, value: &[u8]) -> Agent
     requires { ⌜ now classes ≡ classTable ⌝ }
     ensures { λ r. ⌜ r ≡ agentAt place (now (value .entry)) ⌝ }
 {
@@ -51,7 +52,7 @@ fn pattern_at(place: Place, value: &[u8], readable: bool) -> Pattern
 }
 
 // The octets of the value that a text begins with.
-fn value_length(classes: &[u8; 256], s: &[u8]) -> usize
+fn value_length(classes: &ClassTable, s: &[u8]) -> usize
     requires { ⌜ now classes ≡ classTable ⌝ }
     ensures { λ r. ⌜ r ≡ length (trimEnd (upTo stop (now (s .entry)))) ⌝ }
 {
@@ -60,7 +61,7 @@ fn value_length(classes: &[u8; 256], s: &[u8]) -> usize
 }
 
 // The agent of the value that begins there.
-fn agent_of(classes: &[u8; 256], r: &[u8], value: Place) -> Agent
+fn agent_of(classes: &ClassTable, r: &[u8], value: Place) -> Agent
     requires { ⌜ (now classes ≡ classTable) × (value .offset ≤ length (now r)) ⌝ }
     ensures { λ a. ⌜ a ≡ agentAt value (valueAt value (now (r .entry))) ⌝ }
 {
@@ -71,7 +72,7 @@ fn agent_of(classes: &[u8; 256], r: &[u8], value: Place) -> Agent
 }
 
 // Nothing is examined from there on. Most octets are past all stops, which is told sooner than their class.
-fn ends_at(classes: &[u8; 256], s: &[u8], at: Place) -> bool
+fn ends_at(classes: &ClassTable, s: &[u8], at: Place) -> bool
     requires { ⌜ now classes ≡ classTable ⌝ }
     ensures { λ r. ⌜ r ≡ ended (drop (at .offset) (now (s .entry))) ⌝ }
 {
@@ -86,7 +87,7 @@ fn ends_at(classes: &[u8; 256], s: &[u8], at: Place) -> bool
 }
 
 // The pattern of the value that begins there. Most are of ordinary octets alone, which hold no space and are whole characters.
-fn pattern_of(classes: &[u8; 256], r: &[u8], place: Place) -> Pattern
+fn pattern_of(classes: &ClassTable, r: &[u8], place: Place) -> Pattern
     requires { ⌜ (now classes ≡ classTable) × (place .offset ≤ length (now r)) ⌝ }
     ensures { λ p. ⌜ p ≡ patternAt place (valueAt place (now (r .entry))) ⌝ }
 {
@@ -103,7 +104,7 @@ fn pattern_of(classes: &[u8; 256], r: &[u8], place: Place) -> Pattern
 }
 
 // The kind of a line that has no field that the protocol knows.
-fn idle_kind(classes: &[u8; 256], r: &[u8]) -> Kind
+fn idle_kind(classes: &ClassTable, r: &[u8]) -> Kind
     requires { ⌜ (now classes ≡ classTable) × (fieldOf (kindOf (lineText (now r))) ≡ Field.Other) ⌝ }
     ensures { λ k. ⌜ k ≡ kindOf (lineText (now (r .entry))) ⌝ }
 {
@@ -132,7 +133,7 @@ fn side_of(field: Field) -> Side
 }
 
 // The kind of a line whose head is known.
-pub fn kind_at(classes: &[u8; 256], r: &[u8], head: Head) -> Kind
+pub fn kind_at(classes: &ClassTable, r: &[u8], head: Head) -> Kind
     requires { ⌜ (now classes ≡ classTable) × (head ≡ headOf (now r)) ⌝ }
     ensures { λ k. ⌜ k ≡ kindOf (lineText (now (r .entry))) ⌝ }
 {
@@ -148,7 +149,7 @@ pub fn kind_at(classes: &[u8; 256], r: &[u8], head: Head) -> Kind
 }
 
 // Most lines that have no field begin with what ends them.
-pub fn kind_of(classes: &[u8; 256], r: &[u8]) -> Kind
+pub fn kind_of(classes: &ClassTable, r: &[u8]) -> Kind
     requires { ⌜ now classes ≡ classTable ⌝ }
     ensures { λ k. ⌜ k ≡ kindOf (lineText (now (r .entry))) ⌝ }
 {

@@ -8,6 +8,7 @@ ghost use Rattle.protocol.specs.Octets.{is, lineEnd};
 ghost use Rattle.protocol.specs.Lines.{hasLeadingMark, skipped, placeAt, endingLength};
 ghost use Rattle.protocol.specs.Classes.{classTable};
 ghost use Rattle.lines.specs.Spans.{nextAt};
+use protocol::ClassTable;
 use protocol::Place;
 
 // Whether a file begins with the leading mark EF BB BF.
@@ -62,7 +63,7 @@ fn ending_length(s: &[u8]) -> usize
 }
 
 // Where the line behind the one at `from` begins: the end of the file, if none does.
-pub fn next_place(classes: &[u8; 256], file: &[u8], from: Place) -> Place
+pub fn next_place(classes: &ClassTable, file: &[u8], from: Place) -> Place
     requires { ⌜ now classes ≡ classTable ⌝ }
     ensures { λ r. ⌜ r ≡ nextAt (now (file .entry)) from ⌝ }
 {

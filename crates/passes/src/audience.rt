@@ -9,10 +9,11 @@ ghost use Rattle.protocol.specs.Classes.{classTable};
 ghost use Rattle.passes.specs.Entries.{lineAudience, unlessNobody};
 use fields::Field;
 use protocol::Audience;
+use protocol::ClassTable;
 use protocol::Place;
 
 // Whom the line that begins at `at` names.
-fn line_audience(classes: &[u8; 256], file: &[u8], at: Place, name: &[u8]) -> Audience
+fn line_audience(classes: &ClassTable, file: &[u8], at: Place, name: &[u8]) -> Audience
     requires { ⌜ (now classes ≡ classTable) × (at .offset ≤ length (now file)) ⌝ }
     ensures { λ r. ⌜ r ≡ lineAudience (now (file .entry)) (now (name .entry)) at ⌝ }
 {
@@ -39,7 +40,7 @@ fn unless_nobody(here: Audience, before: Audience) -> Audience
 }
 
 // The first agent line that names the crawler tells; otherwise it matters whether one names "*".
-pub fn choose_audience(classes: &[u8; 256], file: &[u8], name: &[u8]) -> Audience
+pub fn choose_audience(classes: &ClassTable, file: &[u8], name: &[u8]) -> Audience
     requires { ⌜ now classes ≡ classTable ⌝ }
     ensures { λ r. ⌜ r ≡ audience (now (file .entry)) (entries (now (file .entry))) (now (name .entry)) ⌝ }
 {

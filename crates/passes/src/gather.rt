@@ -16,6 +16,7 @@ use considering::Considered;
 use hearing::Hearing;
 use protocol::Agent;
 use protocol::Audience;
+use protocol::ClassTable;
 use protocol::Kind;
 use protocol::Pattern;
 use protocol::Place;
@@ -50,7 +51,7 @@ fn is_unread_rule(side: Side, pattern: Pattern) -> bool
 
 // After a line that is no rule line: an agent line is heard, and any other changes nothing.
 fn hear_other(
-    classes: &[u8; 256],
+    classes: &ClassTable,
     h: Hearing,
     audience: Audience,
     name: &[u8],
@@ -124,7 +125,7 @@ fn pass_line(file: &[u8], at: Position, kind: Kind) -> Position
 
 // After all lines of a file, for those whose groups apply.
 pub fn gather(
-    classes: &[u8; 256],
+    classes: &ClassTable,
     file: &[u8],
     audience: Audience,
     name: &[u8],

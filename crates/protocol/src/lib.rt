@@ -1,5 +1,8 @@
 // The types of document 01's answers, and the names of its fields. What each answer is, for every input, is defined in specs/.
 
+// The table of the octets' class numbers, one for each octet.
+pub type ClassTable = [u8; 256];
+
 // A sort of octets that the code asks for.
 pub enum Sort {
     Token,

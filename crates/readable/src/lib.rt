@@ -11,6 +11,7 @@ ghost use Rattle.protocol.specs.Readable.{everyone, nameFront, readableAgent, n
 ghost use Rattle.protocol.specs.Refusals.{badName};
 ghost use Rattle.protocol.specs.Classes.{classTable};
 ghost use Rattle.readable.specs.Due.{dueRanges, duePast, unusual};
+use protocol::ClassTable;
 use protocol::Place;
 use protocol::Sort;
 
@@ -35,7 +36,7 @@ fn never_due() -> Due
 }
 
 // After the first octet of a character, by its class number: RFC 9309's UTF8-char-noctl.
-fn due_after(classes: &[u8; 256], x: u8) -> Due
+fn due_after(classes: &ClassTable, x: u8) -> Due
     requires { ⌜ now classes ≡ classTable ⌝ }
     ensures { λ r. ⌜ dueRanges r ≡ dueAfter x characterForms ⌝ }
 {
@@ -54,7 +55,7 @@ fn due_after(classes: &[u8; 256], x: u8) -> Due
 }
 
 // After one octet more.
-fn due_past(classes: &[u8; 256], due: Due, x: u8) -> Due
+fn due_past(classes: &ClassTable, due: Due, x: u8) -> Due
     requires { ⌜ now classes ≡ classTable ⌝ }
     ensures { λ r. ⌜ dueRanges r ≡ duePast (dueRanges due) x ⌝ }
 {
@@ -116,7 +117,7 @@ pub fn readable_pattern(p: &[u8]) -> bool
 }
 
 // Octets of a crawler's name only, or none.
-fn all_token(classes: &[u8; 256], s: &[u8]) -> bool
+fn all_token(classes: &ClassTable, s: &[u8]) -> bool
     requires { ⌜ now classes ≡ classTable ⌝ }
     ensures { λ r. ⌜ r ≡ all token (now (s .entry)) ⌝ }
 {
@@ -125,7 +126,7 @@ fn all_token(classes: &[u8; 256], s: &[u8]) -> bool
 }
 
 // One or more of them.
-fn is_name(classes: &[u8; 256], v: &[u8]) -> bool
+fn is_name(classes: &ClassTable, v: &[u8]) -> bool
     requires { ⌜ now classes ≡ classTable ⌝ }
     ensures { λ r. ⌜ r ≡ (not (empty (now (v .entry))) && all token (now (v .entry))) ⌝ }
 {
@@ -146,7 +147,7 @@ fn is_everyone(v: &[u8]) -> bool
 }
 
 // No octet of a name stands there: a name that reaches so far ends in front of it.
-fn name_ends(classes: &[u8; 256], v: &[u8], at: Place) -> bool
+fn name_ends(classes: &ClassTable, v: &[u8], at: Place) -> bool
     requires { ⌜ now classes ≡ classTable ⌝ }
     ensures { λ r. ⌜ r ≡ empty (nameFront (drop (at .offset) (now (v .entry)))) ⌝ }
 {
@@ -157,7 +158,7 @@ fn name_ends(classes: &[u8; 256], v: &[u8], at: Place) -> bool
     !octets::is_of(classes, Sort::Token, v[i])
 }
 
-pub fn readable_agent(classes: &[u8; 256], v: &[u8]) -> bool
+pub fn readable_agent(classes: &ClassTable, v: &[u8]) -> bool
     requires { ⌜ now classes ≡ classTable ⌝ }
     ensures { λ r. ⌜ r ≡ readableAgent (now (v .entry)) ⌝ }
 {
@@ -168,7 +169,7 @@ pub fn readable_agent(classes: &[u8; 256], v: &[u8]) -> bool
 }
 
 // An agent's value names a crawler, or "*". Octets that are equal to a name's are a name's, so the one behind them tells the rest.
-pub fn names(classes: &[u8; 256], value: &[u8], who: &[u8]) -> bool
+pub fn names(classes: &ClassTable, value: &[u8], who: &[u8]) -> bool
     requires { ⌜ now classes ≡ classTable ⌝ }
     ensures { λ r. ⌜ r ≡ names (now (value .entry)) (now (who .entry)) ⌝ }
 {
@@ -185,7 +186,7 @@ pub fn names(classes: &[u8; 256], value: &[u8], who: &[u8]) -> bool
 }
 
 // A crawler's name that is refused.
-pub fn is_bad_name(classes: &[u8; 256], name: &[u8]) -> bool
+pub fn is_bad_name(classes: &ClassTable, name: &[u8]) -> bool
     requires { ⌜ now classes ≡ classTable ⌝ }
     ensures { λ r. ⌜ r ≡ badName (now (name .entry)) .given ⌝ }
 {

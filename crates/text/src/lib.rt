@@ -10,6 +10,7 @@ ghost use Rattle.protocol.specs.Text.{lead, trimEnd};
 ghost use Rattle.protocol.specs.Octets.{lineEnd};
 ghost use Rattle.protocol.specs.Classes.{classTable};
 ghost use Rattle.text.specs.Parts.{among, equals, firstFrom, sought, past};
+use protocol::ClassTable;
 use protocol::Place;
 use protocol::Sort;
 
@@ -87,7 +88,7 @@ pub fn find(s: &[u8], x: u8) -> usize
 }
 
 // The place of the first CR or LF from `from` on, or the text's end.
-pub fn line_end(classes: &[u8; 256], s: &[u8], from: Place) -> Place
+pub fn line_end(classes: &ClassTable, s: &[u8], from: Place) -> Place
     requires { ⌜ now classes ≡ classTable ⌝ }
     ensures { λ r. ⌜ r ≡ firstFrom lineEnd (now (s .entry)) from ⌝ }
 {
@@ -104,7 +105,7 @@ pub fn line_end(classes: &[u8; 256], s: &[u8], from: Place) -> Place
 }
 
 // The octets in front of the first that is of the sort; where `inside` is false, of the first that isn't.
-pub fn scan(classes: &[u8; 256], s: &[u8], sort: Sort, inside: bool) -> usize
+pub fn scan(classes: &ClassTable, s: &[u8], sort: Sort, inside: bool) -> usize
     requires { ⌜ now classes ≡ classTable ⌝ }
     ensures { λ r. ⌜ r ≡ length (upTo (sought sort inside) (now (s .entry))) ⌝ }
 {
@@ -119,7 +120,7 @@ pub fn scan(classes: &[u8; 256], s: &[u8], sort: Sort, inside: bool) -> usize
 }
 
 // The number of spaces and tabs at the front.
-pub fn lead(classes: &[u8; 256], s: &[u8]) -> usize
+pub fn lead(classes: &ClassTable, s: &[u8]) -> usize
     requires { ⌜ now classes ≡ classTable ⌝ }
     ensures { λ r. ⌜ r ≡ lead (now (s .entry)) ⌝ }
 {
@@ -127,7 +128,7 @@ pub fn lead(classes: &[u8; 256], s: &[u8]) -> usize
 }
 
 // The octets that are left without spaces and tabs at the end.
-pub fn trimmed_length(classes: &[u8; 256], s: &[u8]) -> usize
+pub fn trimmed_length(classes: &ClassTable, s: &[u8]) -> usize
     requires { ⌜ now classes ≡ classTable ⌝ }
     ensures { λ r. ⌜ r ≡ length (trimEnd (now (s .entry))) ⌝ }
 {
@@ -179,7 +180,7 @@ fn past_front(s: &[u8]) -> usize
 }
 
 // Some octet is CR or LF.
-pub fn holds_line_end(classes: &[u8; 256], s: &[u8]) -> bool
+pub fn holds_line_end(classes: &ClassTable, s: &[u8]) -> bool
     requires { ⌜ now classes ≡ classTable ⌝ }
     ensures { λ r. ⌜ r ≡ any lineEnd (now (s .entry)) ⌝ }
 {
