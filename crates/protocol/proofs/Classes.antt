@@ -14,15 +14,15 @@ use Rattle.lists.proofs.Bools.{split}
 use Rattle.lists.proofs.Numbers.{agree-on, value-at}
 use Rattle.protocol.specs.declared.Sort.{Sort}
 use Rattle.protocol.specs.Octets.{upper, lower, digit, token, unreserved, hex, hexValue, blank, lineEnd, lowerCase, upperCase}
-use Rattle.protocol.specs.Text.{octets}
-use Rattle.protocol.specs.Readable.{characterForms, dueAfter}
+use Rattle.protocol.specs.Text.{octets, begins}
+use Rattle.protocol.specs.Readable.{characterForms, dueAfter, patternStart}
 use Rattle.protocol.specs.Normal.{special}
 use Rattle.protocol.specs.Refusals.{outsidePath}
 use Rattle.protocol.specs.Classes.{stop, delimiter, order, classOf, classTable, classForms, dueUpTo, Sorts, sortsOf, told, TellsSorts, ofSort, isOf, classIn}
 
 -- the rule, at all 256 octets
 pub table-tells : TellsSorts classTable
-unfolding numbersFrom upTo octets order classOf classTable classForms dueUpTo upper lower digit token unreserved hex hexValue blank lineEnd lowerCase upperCase stop delimiter characterForms dueAfter special outsidePath
+unfolding numbersFrom upTo octets begins patternStart order classOf classTable classForms dueUpTo upper lower digit token unreserved hex hexValue blank lineEnd lowerCase upperCase stop delimiter characterForms dueAfter special outsidePath
 table-tells = refl
 
 in-class : (s : Sort) (c : ℕ) → classIn s c ≡ ofSort s (told c)

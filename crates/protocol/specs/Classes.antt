@@ -11,7 +11,7 @@ use Rattle.lists.specs.Lists.{upTo, numbersFrom}
 use Rattle.protocol.specs.declared.Sort.{Sort}
 use Rattle.protocol.specs.Octets.{within, is, token, unreserved, hex, hexValue, blank, lineEnd, lowerCase, upperCase}
 use Rattle.protocol.specs.Text.{octets}
-use Rattle.protocol.specs.Readable.{Range, _to_, utf8Tail, never, characterForms, dueAfter}
+use Rattle.protocol.specs.Readable.{Range, _to_, utf8Tail, never, characterForms, dueAfter, patternStart}
 use Rattle.protocol.specs.Normal.{isEncoded}
 use Rattle.protocol.specs.Refusals.{outsidePath}
 
@@ -30,7 +30,7 @@ order =
     numbersFrom (code "0") 10
     ++ numbersFrom (code "a") 26
     ++ octets "-_.~"
-    -- 40 to 62: the other printable ones that normalising leaves as they are; 63 to 66: those that it changes
+    -- 40 to 62: the other printable ones that normalising leaves as they are; 63 to 66: those that it changes; "/" and "*" side by side
     ++ octets "!\"&'()+,;<=>?@[\\]^`{|}/"
     ++ octets "*$%"
     ++ (0x7F ∷ [])
@@ -73,6 +73,8 @@ pub record Sorts : Type 0 where
   -- it doesn't stay as it is: in a path, in a pattern
   pub encoded : Bool
   pub encodedInPattern : Bool
+  -- a readable pattern may begin with it
+  pub patternStart : Bool
   -- the octets that follow it, where a character begins with it
   pub due : List Range
   pub lowerCase : ℕ
@@ -92,6 +94,7 @@ sortsOf x =
       outsidePath = outsidePath x;
       encoded = isEncoded false x;
       encodedInPattern = isEncoded true x;
+      patternStart = patternStart (x ∷ []);
       due = dueAfter x characterForms;
       lowerCase = lowerCase x;
       upperCase = upperCase x;
@@ -178,6 +181,7 @@ told c =
       outsidePath = leb 195 c && not (eqb c 226);
       encoded = within 63 194 c;
       encodedInPattern = within 64 194 c;
+      patternStart = within 62 63 c;
       due = dueUpTo c classForms;
       lowerCase = getD order c 0;
       upperCase = upperCase (getD order c 0);
