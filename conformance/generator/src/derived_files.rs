@@ -157,7 +157,7 @@ fn as_heavy(random: &mut Random, mut pattern: Vec<u8>) -> Vec<u8> {
     pattern
 }
 
-fn refused_name(random: &mut Random) -> Vec<u8> {
+pub(crate) fn refused_name(random: &mut Random) -> Vec<u8> {
     match random.below(4) {
         0 => Vec::new(),
         1 => vec![b'x'; MOST_NAME + 1],
@@ -170,7 +170,7 @@ fn refused_name(random: &mut Random) -> Vec<u8> {
     }
 }
 
-fn refused_path(random: &mut Random, theme: &[u8]) -> Vec<u8> {
+pub(crate) fn refused_path(random: &mut Random, theme: &[u8]) -> Vec<u8> {
     match random.below(8) {
         0 => Vec::new(),
         1 => vec![b'/'; MOST_PATH + 1],

@@ -208,7 +208,7 @@ fn damaged_pattern(random: &mut Random, theme: &[u8]) -> Vec<u8> {
     pattern
 }
 
-fn leading_mark(random: &mut Random) -> Vec<u8> {
+pub(crate) fn leading_mark(random: &mut Random) -> Vec<u8> {
     let doubled = [MARK, MARK].concat();
     match random.below(8) {
         0 => MARK[..1].to_vec(),

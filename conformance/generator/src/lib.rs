@@ -14,6 +14,8 @@
 //! up to a length, and `normal_length` the length of a normalised path.
 
 mod agents;
+mod dense;
+mod dense_values;
 mod derived;
 mod derived_files;
 mod edges;
@@ -28,6 +30,7 @@ pub use patterns::normal_length;
 pub use small::{after_slash, after_slash_or_star, strings};
 
 use agents::agent_value;
+use dense::dense_decide_case;
 use derived::derived_case;
 use derived_files::{derived_decide_case, long_decide_case};
 use files::Setting;
@@ -81,6 +84,7 @@ const DERIVED: u64 = 6;
 const DERIVED_DECIDE: u64 = 7;
 const LONG_DECIDE: u64 = 8;
 const AGENT: u64 = 9;
+const DENSE_DECIDE: u64 = 10;
 
 /// Draws `count` cases of one sort.
 fn drawn<T>(
@@ -107,6 +111,12 @@ pub fn derived_decide_cases(seed: u64, count: usize) -> impl Iterator<Item = Dec
 /// The same with files about as long as one may be; half are too long.
 pub fn long_decide_cases(seed: u64, count: usize) -> impl Iterator<Item = DecideCase> {
     drawn(seed, LONG_DECIDE, count, long_decide_case)
+}
+
+/// Generated questions for deciding, with files of many short lines: every sort
+/// of line stands at every offset of a block of 64 octets.
+pub fn dense_decide_cases(seed: u64, count: usize) -> impl Iterator<Item = DecideCase> {
+    drawn(seed, DENSE_DECIDE, count, dense_decide_case)
 }
 
 /// Generated questions for matching.

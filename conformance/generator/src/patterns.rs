@@ -218,7 +218,7 @@ fn tail(random: &mut Random) -> Vec<u8> {
 }
 
 /// The file's own path, spelt in some way, and its neighbours.
-fn robots_path(random: &mut Random) -> Vec<u8> {
+pub(crate) fn robots_path(random: &mut Random) -> Vec<u8> {
     let mut path = b"/robots.txt".to_vec();
     if random.one_in(2) {
         path = respelt(random, &path);
@@ -283,7 +283,7 @@ pub(crate) fn damaged_path(random: &mut Random, theme: &[u8]) -> Vec<u8> {
 
 /// Puts letters for the octets that no path may hold, so that most questions
 /// are answered.
-fn mended(random: &mut Random, mut path: Vec<u8>) -> Vec<u8> {
+pub(crate) fn mended(random: &mut Random, mut path: Vec<u8>) -> Vec<u8> {
     for octet in &mut path {
         if *octet <= 0x20 || *octet == b'#' {
             *octet = random.octet_of(b"ab");

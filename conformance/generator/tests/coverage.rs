@@ -7,6 +7,8 @@ use evaluator::{decide, line_kind, match_pattern, normalise, program};
 use evaluator::{Decision, Matched};
 use generator::{DecideCase, MatchCase, SEED};
 
+#[path = "coverage/dense.rs"]
+mod dense;
 mod support;
 use support::{name_of, sides_changed, told, Told, MARK};
 

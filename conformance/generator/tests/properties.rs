@@ -47,6 +47,9 @@ fn the_generator_is_deterministic() {
     assert_eq!(few, more[..50]);
     let other: Vec<_> = generator::decide_cases(SEED + 1, 50).collect();
     assert_ne!(few, other);
+    let dense: Vec<_> = generator::dense_decide_cases(SEED, 50).collect();
+    let more: Vec<_> = generator::dense_decide_cases(SEED, 100).collect();
+    assert_eq!(dense, more[..50]);
     let lines: Vec<_> = generator::line_cases(SEED, 50).collect();
     let again: Vec<_> = generator::line_cases(SEED, 50).collect();
     assert_eq!(lines, again);

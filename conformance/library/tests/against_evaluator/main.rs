@@ -11,6 +11,7 @@ mod decide_octets;
 mod decide_refusals;
 mod deciding;
 mod definition_rows;
+mod dense;
 mod generated;
 mod limits;
 mod line_octets;

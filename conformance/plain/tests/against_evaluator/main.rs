@@ -23,6 +23,8 @@ mod decide_octets;
 mod decide_refusals;
 #[path = "../../../library/tests/against_evaluator/deciding.rs"]
 mod deciding;
+#[path = "../../../library/tests/against_evaluator/dense.rs"]
+mod dense;
 mod numbers;
 #[path = "../../../library/tests/against_evaluator/path_refusals.rs"]
 mod path_refusals;
