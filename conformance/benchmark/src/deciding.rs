@@ -4,6 +4,7 @@ use std::hint::black_box;
 
 use crate::measure::{measure, Medians, Turns};
 use crate::passes::count_line_feeds;
+use crate::same;
 use crate::sites::{self, Site};
 
 /// A pass asks about at least this many octets of the file.
@@ -37,13 +38,15 @@ pub fn run() {
 
 fn run_site(site: &Site) {
     let questions = questions(site);
-    check(site, &questions);
+    for (name, path) in &questions {
+        same::decision(site.name, &site.file, name, path);
+    }
     let asked = asked(site);
     print_row(site, &questions, asked.len(), &medians(site, &asked));
 }
 
 /// Each name with each path.
-fn questions(site: &Site) -> Vec<Question<'_>> {
+pub fn questions(site: &Site) -> Vec<Question<'_>> {
     site.names
         .iter()
         .flat_map(|name| {
@@ -94,37 +97,6 @@ pub fn sum(asked: &[Question], disallow: impl Fn(&[u8], &[u8]) -> usize) -> usiz
         .iter()
         .map(|(name, path)| disallow(black_box(name), black_box(path)))
         .sum()
-}
-
-/// Library, plain C and evaluator give the same seven numbers for each
-/// question, and none is refused.
-fn check(site: &Site, questions: &[Question]) {
-    let file = site.file.as_slice();
-    for (name, path) in questions {
-        let message = format!("{}: {}", site.name, path.escape_ascii());
-        let expected = evaluator::decide(file, name, path);
-        let expected = plain::Decision {
-            refusal: 0,
-            disallow: usize::from(expected.disallow),
-            line: expected.line,
-            place: expected.place,
-            length: expected.length,
-            unread: expected.unread,
-            compared: expected.compared,
-        };
-        let library = plain::Decision {
-            refusal: library::decide_refusal(file, name, path),
-            disallow: library::decide_disallow(file, name, path),
-            line: library::decide_line(file, name, path),
-            place: library::decide_place(file, name, path),
-            length: library::decide_length(file, name, path),
-            unread: library::decide_unread(file, name, path),
-            compared: library::decide_compared(file, name, path),
-        };
-        assert_eq!(library, expected, "library, {message}");
-        let plain_c = plain::decide(file, name, path);
-        assert_eq!(plain_c, expected, "plain C, {message}");
-    }
 }
 
 fn print_row(site: &Site, questions: &[Question], calls: usize, medians: &Medians<3>) {

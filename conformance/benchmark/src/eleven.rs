@@ -19,10 +19,10 @@ const LONG_RUN: usize = 1_018;
 const COMPARED: usize = 100_000;
 
 /// A pattern and a path, neither of which normalising changes.
-struct Case {
-    name: &'static str,
-    pattern: Vec<u8>,
-    path: Vec<u8>,
+pub struct Case {
+    pub name: &'static str,
+    pub pattern: Vec<u8>,
+    pub path: Vec<u8>,
     /// The pairs that going back compares, where they have been worked out.
     back: Option<u128>,
 }
@@ -39,6 +39,14 @@ fn case(name: &'static str, more: usize, octets: usize) -> Case {
     }
 }
 
+pub fn cases() -> [Case; 3] {
+    [
+        case("short path", 0, SHORT),
+        case("longest path", 0, LONGEST),
+        case("and a long last run", LONG_RUN, LONGEST),
+    ]
+}
+
 /// Prints a row for each case.
 pub fn run() {
     println!(
@@ -52,10 +60,10 @@ pub fn run() {
         "going back compares",
         "going back"
     );
-    let short = case("short path", 0, SHORT);
+    let [short, longest, long_run] = cases();
     print_row(&short, Some(time_going_back(&short)));
-    print_row(&case("longest path", 0, LONGEST), None);
-    print_row(&case("and a long last run", LONG_RUN, LONGEST), None);
+    print_row(&longest, None);
+    print_row(&long_run, None);
 }
 
 fn print_row(case: &Case, time_back: Option<f64>) {

@@ -3,13 +3,25 @@
 //! build of it. `docs/BENCHMARKS.md` says what is measured.
 
 mod beside;
+mod counting;
 mod deciding;
 mod eleven;
+mod growth;
 mod inputs;
 mod loaded;
 mod measure;
+mod others;
 mod passes;
+mod patterns;
+mod picture;
+mod rows;
+mod same;
+mod sections;
+mod shapes;
 mod sites;
+mod small;
+mod starts;
+mod table;
 
 use std::process::exit;
 
@@ -19,8 +31,8 @@ use passes::Passes;
 
 const USAGE: &str =
     "cargo run --release --manifest-path conformance/Cargo.toml -p benchmark --offline --locked";
-const MODES: &str =
-    "alone or with '-- deciding', '-- beside OLD/librobots.a' or '-- once ARCHIVE ROW' behind it";
+const MODES: &str = "alone or with '-- table', '-- deciding', '-- beside OLD/librobots.a' or \
+     '-- once ARCHIVE ROW' behind it";
 
 fn main() {
     let arguments: Vec<String> = std::env::args().skip(1).collect();
@@ -30,6 +42,10 @@ fn main() {
     }
     match arguments[..] {
         [] => run_all(),
+        ["table"] => table::run(),
+        // what the table starts itself
+        ["start"] => starts::start(&sections::all()),
+        ["count"] => counting::count(&sections::all()),
         ["deciding"] => run_deciding(),
         ["beside", older] => beside::run(older),
         ["once", archive, row] => beside::once(archive, row),

@@ -93,7 +93,7 @@ fn match_all(records: &[&[u8]], found: impl Fn(&[u8], &[u8]) -> usize) -> usize 
 }
 
 /// The longest normalised path.
-const MOST: usize = 6_142;
+pub const MOST: usize = 6_142;
 
 fn normalise_all(paths: &[&[u8]], normalise: impl Fn(&[u8], &mut [u8]) -> usize) -> usize {
     let mut buffer = [0; MOST];

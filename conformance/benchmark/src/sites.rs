@@ -4,7 +4,7 @@
 use crate::inputs::{mixed_line, plain_path, rule, sentence, Numbers};
 
 /// The longest file that is answered.
-const LONGEST: usize = 512_000;
+pub const LONGEST: usize = 512_000;
 
 /// A file with the names and paths that are asked about it, each name with
 /// each path.
@@ -16,7 +16,7 @@ pub struct Site {
 }
 
 /// A crawler that the files name, and one that they don't.
-const NAMES: [&str; 2] = ["ExampleBot", "another-bot"];
+pub const NAMES: [&str; 2] = ["ExampleBot", "another-bot"];
 
 const SMALL: &str = "\
 # www.example.com
@@ -42,7 +42,7 @@ Disallow: /
 Sitemap: https://www.example.com/sitemap.xml
 ";
 
-fn paths(paths: &[&str]) -> Vec<String> {
+pub fn paths(paths: &[&str]) -> Vec<String> {
     paths.iter().map(|path| path.to_string()).collect()
 }
 

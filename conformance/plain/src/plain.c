@@ -12,6 +12,7 @@
 enum {
     FILE_MOST = 512000,
     NAME_MOST = 64,
+    PATTERN_MOST = 512000,
     PATH_MOST = 2048,
     NORMALISED_MOST = 6142 /* "/", and an escape for each other octet */
 };
@@ -439,12 +440,8 @@ static bool is_name(struct text name)
     return true;
 }
 
-static size_t refusal(struct text file, struct text name, struct text path)
+static size_t path_refusal(struct text path)
 {
-    if (file.length > FILE_MOST)
-        return 1;
-    if (!is_name(name))
-        return 2;
     if (path.length == 0 || path.length > PATH_MOST)
         return 3;
     if (path.start[0] != '/')
@@ -453,6 +450,13 @@ static size_t refusal(struct text file, struct text name, struct text path)
         if (path.start[at] <= 0x20 || path.start[at] == '#')
             return 5;
     return 0;
+}
+
+static size_t refusal(struct text file, struct text name, struct text path)
+{
+    if (file.length > FILE_MOST)
+        return 1;
+    return is_name(name) ? path_refusal(path) : 2;
 }
 
 static bool is_robots_txt(struct text path)
@@ -484,4 +488,47 @@ struct plain_decision plain_decide(const uint8_t *file, size_t file_length,
         .unread = state.unread,
         .compared = tally->compared,
     };
+}
+
+/* Whether these octets are a readable pattern, which is taken apart if so. */
+static bool is_readable(struct text raw, struct pattern *pattern)
+{
+    const uint8_t *end = raw.start + raw.length;
+    if (raw.length == 0 || (raw.start[0] != '/' && raw.start[0] != '*'))
+        return false;
+    return read_characters(raw.start, end, pattern) == end;
+}
+
+struct plain_matched plain_match(const uint8_t *pattern, size_t pattern_length,
+                                 const uint8_t *path, size_t path_length)
+{
+    struct text raw_path = {path, path_length};
+    struct pattern readable;
+    size_t refused = pattern_length > PATTERN_MOST ? 1 : path_refusal(raw_path);
+    if (!refused && !is_readable((struct text){pattern, pattern_length}, &readable))
+        refused = 8;
+    if (refused)
+        return (struct plain_matched){.refusal = refused};
+    uint8_t buffer[NORMALISED_MOST];
+    struct text normalised = {buffer, normalise(raw_path, buffer, NORMALISED_MOST)};
+    struct walked walked = walk(&readable, normalised);
+    return (struct plain_matched){.found = walked.weight != 0, .compared = walked.compared};
+}
+
+struct plain_normalised plain_normalise(const uint8_t *path, size_t path_length,
+                                        uint8_t *buffer, size_t room)
+{
+    struct text raw = {path, path_length};
+    size_t refused = path_refusal(raw);
+    if (refused)
+        return (struct plain_normalised){.refusal = refused};
+    if (room >= 3 * path_length)
+        return (struct plain_normalised){.written = normalise(raw, buffer, room)};
+    /* it may not fit, and a refused path writes nothing */
+    uint8_t own[NORMALISED_MOST];
+    size_t written = normalise(raw, own, NORMALISED_MOST);
+    if (written > room)
+        return (struct plain_normalised){.refusal = 6};
+    memcpy(buffer, own, written);
+    return (struct plain_normalised){.written = written};
 }

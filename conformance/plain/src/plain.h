@@ -23,4 +23,24 @@ struct plain_decision plain_decide(const uint8_t *file, size_t file_length,
                                    const uint8_t *name, size_t name_length,
                                    const uint8_t *path, size_t path_length);
 
+/* One pattern against one path; a refused match holds its refusal and zeros. */
+struct plain_matched {
+    size_t refusal;  /* 0 if answered, otherwise 1, 3, 4, 5 or 8 */
+    size_t found;    /* 0 or 1 */
+    size_t compared; /* pairs of octets compared */
+};
+
+struct plain_matched plain_match(const uint8_t *pattern, size_t pattern_length,
+                                 const uint8_t *path, size_t path_length);
+
+/* A path normalised into the front of a buffer; a refused one writes nothing. */
+struct plain_normalised {
+    size_t refusal; /* 0 if answered, otherwise 3 to 6 */
+    size_t written; /* octets */
+};
+
+/* `buffer` holds `room` octets, and may be NULL only if that is 0. */
+struct plain_normalised plain_normalise(const uint8_t *path, size_t path_length,
+                                        uint8_t *buffer, size_t room);
+
 #endif

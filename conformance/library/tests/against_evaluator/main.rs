@@ -13,6 +13,7 @@ mod deciding;
 mod definition_rows;
 mod dense;
 mod generated;
+mod generated_paths;
 mod limits;
 mod line_octets;
 mod match_limits;

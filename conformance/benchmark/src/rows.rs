@@ -1,0 +1,116 @@
+//! The rows of the table: questions that are asked of the library and of plain
+//! C.
+
+use std::hint::black_box;
+
+use crate::passes::MOST;
+
+/// Two inputs of a question: a name and a path, or a pattern and a path.
+pub type Pair = (Vec<u8>, Vec<u8>);
+
+/// Who is asked.
+#[derive(Clone, Copy, PartialEq, Eq)]
+pub enum Side {
+    Library,
+    PlainC,
+    Evaluator,
+}
+
+/// What is asked.
+pub enum Asked {
+    /// Each name and path, by this file.
+    Decide(Vec<u8>, Vec<Pair>),
+    /// Each pattern against its path.
+    Match(Vec<Pair>),
+    /// Each path normalised into the same buffer.
+    Normalise(Vec<Vec<u8>>),
+}
+
+pub struct Row {
+    pub name: String,
+    pub asked: Asked,
+    /// A question's time is divided by this too: octets, rules or stars.
+    pub units: usize,
+}
+
+impl Row {
+    /// A decision by this file, whose octets are the units.
+    pub fn deciding(name: impl Into<String>, file: Vec<u8>, questions: Vec<Pair>) -> Row {
+        Row {
+            name: name.into(),
+            units: file.len().max(1),
+            asked: Asked::Decide(file, questions),
+        }
+    }
+
+    /// How many questions a pass asks.
+    pub fn questions(&self) -> usize {
+        match &self.asked {
+            Asked::Decide(_, pairs) | Asked::Match(pairs) => pairs.len(),
+            Asked::Normalise(paths) => paths.len(),
+        }
+    }
+
+    /// Asks all questions of one side, and gives a sum of the answers.
+    pub fn pass(&self, side: Side) -> usize {
+        match &self.asked {
+            Asked::Decide(file, pairs) => decide_all(side, file, pairs),
+            Asked::Match(pairs) => match_all(side, pairs),
+            Asked::Normalise(paths) => normalise_all(side, paths),
+        }
+    }
+}
+
+fn decide_all(side: Side, file: &[u8], pairs: &[Pair]) -> usize {
+    match side {
+        Side::Library => sum(pairs, |name, path| {
+            library::decide_disallow(black_box(file), name, path)
+        }),
+        Side::PlainC => sum(pairs, |name, path| {
+            plain::decide(black_box(file), name, path).disallow
+        }),
+        Side::Evaluator => sum(pairs, |name, path| {
+            usize::from(evaluator::decide(black_box(file), name, path).disallow)
+        }),
+    }
+}
+
+fn match_all(side: Side, pairs: &[Pair]) -> usize {
+    match side {
+        Side::Library => sum(pairs, library::match_found),
+        Side::PlainC => sum(pairs, |pattern, path| {
+            plain::match_pattern(pattern, path).found
+        }),
+        Side::Evaluator => sum(pairs, |pattern, path| {
+            usize::from(evaluator::match_pattern(pattern, path).found)
+        }),
+    }
+}
+
+fn sum(pairs: &[Pair], answer: impl Fn(&[u8], &[u8]) -> usize) -> usize {
+    pairs
+        .iter()
+        .map(|(one, path)| answer(black_box(one), black_box(path)))
+        .sum()
+}
+
+fn normalise_all(side: Side, paths: &[Vec<u8>]) -> usize {
+    match side {
+        Side::Library => written(paths, library::normalise),
+        Side::PlainC => written(paths, |path, buffer| plain::normalise(path, buffer).written),
+        Side::Evaluator => written(paths, |path, buffer| {
+            evaluator::normalise(path, buffer).written
+        }),
+    }
+}
+
+fn written(paths: &[Vec<u8>], normalise: impl Fn(&[u8], &mut [u8]) -> usize) -> usize {
+    let mut buffer = [0; MOST];
+    let mut sum = 0;
+    for path in paths {
+        let written = normalise(black_box(path), black_box(&mut buffer));
+        // no path is refused, so an octet has been written
+        sum += written + usize::from(buffer[written - 1]);
+    }
+    sum
+}

@@ -1,0 +1,55 @@
+//! The sections of the table, with their rows.
+
+use crate::rows::{Pair, Row, Side};
+use crate::sites::Site;
+use crate::{deciding, growth, others, patterns, shapes, sites, small};
+
+pub struct Section {
+    pub title: &'static str,
+    /// What the rows' units are, if a time for each is wanted.
+    pub unit: Option<&'static str>,
+    /// Who is asked; the first two are library and plain C.
+    pub sides: &'static [Side],
+    pub rows: Vec<Row>,
+}
+
+pub const BOTH: [Side; 2] = [Side::Library, Side::PlainC];
+const ALL: [Side; 3] = [Side::Library, Side::PlainC, Side::Evaluator];
+
+/// The first one's is the picture.
+pub fn all() -> Vec<Section> {
+    let octets = |title, rows| section(title, Some("octet"), rows);
+    vec![
+        Section {
+            sides: &ALL,
+            ..octets("files", files(sites::all()))
+        },
+        octets("files not tuned on", files(others::all())),
+        octets("shapes", shapes::named()),
+        section("small questions", None, small::rows()),
+        section("matching, normalising", None, patterns::rows()),
+        octets("growth of the file", growth::sizes()),
+        section("growth of the rules", Some("rule"), growth::rules()),
+        octets("growth of the path", growth::paths()),
+        section("growth of the stars", Some("star"), growth::stars()),
+    ]
+}
+
+fn section(title: &'static str, unit: Option<&'static str>, rows: Vec<Row>) -> Section {
+    Section {
+        title,
+        unit,
+        sides: &BOTH,
+        rows,
+    }
+}
+
+fn files(sites: [Site; 5]) -> Vec<Row> {
+    sites.map(file).into()
+}
+
+fn file(site: Site) -> Row {
+    let pair = |(name, path): (&[u8], &[u8])| (name.to_vec(), path.to_vec());
+    let pairs: Vec<Pair> = deciding::questions(&site).into_iter().map(pair).collect();
+    Row::deciding(site.name, site.file, pairs)
+}
