@@ -14,7 +14,7 @@ MADE = target conformance/target bindings/rust/target bindings/python/__pycache_
 SOURCES := crates.txt $(shell find crates)
 ROOT = $(DESTDIR)$(PREFIX)
 
-.PHONY: all shared install test quick must-fail figures clean help tools prefix
+.PHONY: all shared install test quick must-fail figures benchmark clean help tools prefix
 
 # two rt must not work in the same folder at a time
 .NOTPARALLEL:
@@ -71,6 +71,10 @@ must-fail:
 figures:
 	@python3 -B conformance/gate/figures.py
 
+# library beside plain C, and docs/benchmark.svg; it asserts nothing about time
+benchmark: $(ARCHIVE)
+	cargo run --release --manifest-path conformance/Cargo.toml -p benchmark --offline --locked -- table
+
 clean:
 	rm -rf $(MADE)
 	@echo "removed $(MADE)"
@@ -83,6 +87,7 @@ help:
 	@echo "make quick                rt fmt --check, rt check and all tests but the must-fail edits, in a few minutes"
 	@echo "make must-fail CRATE=walk try the must-fail edits of one crate"
 	@echo "make figures              print functions, lines, edits and seconds of each crate"
+	@echo "make benchmark            print time and instructions of library and plain C, and draw docs/benchmark.svg"
 	@echo "make clean                remove what was built"
 
 tools:

@@ -4,7 +4,7 @@ use crate::inputs::{mixed_line, Numbers};
 use crate::rows::{Asked, Row};
 
 const SIZES: [usize; 6] = [1_000, 4_000, 16_000, 64_000, 256_000, 512_000];
-const RULES: [usize; 6] = [1, 4, 16, 64, 256, 1_024];
+const RULES: [usize; 8] = [1, 4, 16, 64, 256, 1_024, 4_096, 16_384];
 const PATHS: [usize; 8] = [16, 32, 64, 128, 256, 512, 1_024, 2_048];
 const STARS: usize = 11;
 
@@ -17,7 +17,7 @@ pub fn sizes() -> Vec<Row> {
         file.push(b'\n');
     }
     SIZES
-        .map(|size| row(format!("{size} octets"), file[..size].to_vec(), "/a", size))
+        .map(|size| row(file[..size].to_vec(), "/a", size))
         .into()
 }
 
@@ -25,10 +25,9 @@ pub fn sizes() -> Vec<Row> {
 pub fn rules() -> Vec<Row> {
     RULES
         .map(|count| {
-            let rules = (0..count).map(|at| format!("disallow: /archive/{at:04}\n"));
+            let rules = (0..count).map(|at| format!("disallow: /archive/{at:05}\n"));
             let file = format!("user-agent: *\n{}", rules.collect::<String>());
-            let path = "/archive/next/news.html";
-            row(format!("{count} rules"), file.into(), path, count)
+            row(file.into(), "/archive/next/news.html", count)
         })
         .into()
 }
@@ -39,7 +38,7 @@ pub fn paths() -> Vec<Row> {
         .map(|length| {
             let file = b"user-agent: *\ndisallow: /*.pdf$\nallow: /*?q=*&page=\n";
             let path = format!("/{}", "a".repeat(length - 1));
-            row(format!("{length} octets"), file.to_vec(), &path, length)
+            row(file.to_vec(), &path, length)
         })
         .into()
 }
@@ -55,15 +54,16 @@ pub fn stars() -> Vec<Row> {
             };
             let file = format!("user-agent: *\ndisallow: /{runs}\n");
             let path = format!("/{}", "a".repeat(1_000));
-            row(format!("{stars} stars"), file.into(), &path, stars.max(1))
+            row(file.into(), &path, stars)
         })
         .collect()
 }
 
-fn row(name: String, file: Vec<u8>, path: &str, units: usize) -> Row {
+/// A row of so many units, which are its name.
+fn row(file: Vec<u8>, path: &str, units: usize) -> Row {
     Row {
-        name,
+        name: units.to_string(),
         asked: Asked::Decide(file, vec![(b"another-bot".to_vec(), path.into())]),
-        units,
+        units: units.max(1),
     }
 }

@@ -5,26 +5,8 @@ use crate::inputs::Numbers;
 use crate::sites::{paths, Site, LONGEST, NAMES};
 
 const WORDS: [&str; 20] = [
-    "harbour",
-    "timetable",
-    "de",
-    "fr",
-    "w",
-    "index.php",
-    "Special:Search",
-    "wp-admin",
-    "cart",
-    "checkout",
-    "media",
-    "v2",
-    "members",
-    "q",
-    "crossings",
-    "tickets",
-    "%7Ecrew",
-    "caf\u{e9}",
-    "kaj%C3%A9n",
-    "feed",
+    "harbour", "quay", "de", "fr", "w", "page.php", "Special:", "wp-admin", "cart", "checkout",
+    "media", "v2", "members", "q", "crossing", "tickets", "%7Ecrew", "\u{e9}t", "%C3%A9n", "feed",
 ];
 
 const AGENTS: [&str; 8] = [
@@ -133,7 +115,7 @@ fn stars() -> Site {
         file: (lines.join("\n") + "\n").into_bytes(),
         names: NAMES,
         paths: vec![
-            "/de/harbour/timetable/media/way".to_string(),
+            "/de/harbour/tickets/media/way".to_string(),
             format!("/{}/y", "harbour/w/q/".repeat(60)),
             path(&mut numbers),
             format!("/{}", "crossing".repeat(25)),
@@ -157,7 +139,7 @@ fn remarks() -> Site {
         name: "another remarks file",
         file: (lines.join("\n") + "\n").into_bytes(),
         names: NAMES,
-        paths: paths(&["/", "/harbour/timetable?day=2", "/wp-admin"]),
+        paths: paths(&["/", "/harbour/tickets?day=2", "/wp-admin"]),
     }
 }
 

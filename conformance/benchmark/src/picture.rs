@@ -1,12 +1,13 @@
-//! The picture of the five files: ns a question, as bars.
+//! The picture of the first section: ns a question, as bars.
 
-use std::fmt::Write;
 use std::fs;
 
 use crate::sections::Section;
 use crate::starts::Times;
 
 const FILE: &str = concat!(env!("CARGO_MANIFEST_DIR"), "/../../docs/benchmark.svg");
+
+const TITLE: &str = "ns for a question, by file (a logarithmic scale; less is better)";
 
 /// The bars of a file, with their colours.
 const BARS: [(&str, &str); 3] = [
@@ -19,9 +20,9 @@ const BARS: [(&str, &str); 3] = [
 const WIDTH: f64 = 760.0;
 const LEFT: f64 = 110.0;
 const RIGHT: f64 = 650.0;
-const TOP: f64 = 76.0;
+const TOP: f64 = 64.0;
 const BAR: f64 = 16.0;
-const BETWEEN: f64 = 14.0;
+const GROUP: f64 = 62.0;
 
 /// The scale, in powers of ten of a nanosecond.
 const FROM: i32 = 2;
@@ -32,84 +33,76 @@ pub fn write(files: &Section, times: &[Times]) -> Result<(), String> {
 }
 
 fn drawn(files: &Section, times: &[Times]) -> String {
-    let group = BARS.len() as f64 * BAR + BETWEEN;
-    let bottom = TOP + files.rows.len() as f64 * group;
+    let bottom = TOP + files.rows.len() as f64 * GROUP;
     let height = bottom + 30.0;
-    let mut svg = format!(
-        "<svg xmlns=\"http://www.w3.org/2000/svg\" width=\"{WIDTH}\" height=\"{height}\" \
-         viewBox=\"0 0 {WIDTH} {height}\" font-family=\"sans-serif\" font-size=\"12\">\n\
-         <rect width=\"{WIDTH}\" height=\"{height}\" fill=\"#ffffff\"/>\n"
-    );
-    text(&mut svg, (LEFT, 24.0), "start\" font-size=\"15", TITLE);
-    legend(&mut svg);
-    scale(&mut svg, bottom);
-    for (at, row) in files.rows.iter().enumerate() {
-        let top = TOP + at as f64 * group + BETWEEN / 2.0;
-        let middle = top + 1.5 * BAR + 4.0;
-        text(&mut svg, (LEFT - 8.0, middle), "end", &row.name);
-        bars(&mut svg, top, &times[at]);
-    }
-    svg + "</svg>\n"
-}
-
-const TITLE: &str = "A question about a file, in ns (a logarithmic scale; less is better)";
-
-fn text(svg: &mut String, (x, y): (f64, f64), anchor: &str, text: &str) {
-    line(
-        svg,
-        &format!("<text x=\"{x:.1}\" y=\"{y:.1}\" text-anchor=\"{anchor}\">{text}</text>"),
-    );
-}
-
-fn line(svg: &mut String, line: &str) {
-    writeln!(svg, "{line}").expect("a string can be written to");
-}
-
-fn rectangle(svg: &mut String, (x, y): (f64, f64), (width, height): (f64, f64), colour: &str) {
-    line(
-        svg,
-        &format!(
-            "<rect x=\"{x:.1}\" y=\"{y:.1}\" width=\"{width:.1}\" height=\"{height:.1}\" fill=\"{colour}\"/>"
+    let mut parts = vec![
+        format!(
+            "<svg xmlns=\"http://www.w3.org/2000/svg\" viewBox=\"0 0 {WIDTH} {height}\" \
+             width=\"{WIDTH}\" height=\"{height}\" font-family=\"sans-serif\" font-size=\"13\">"
         ),
-    );
+        rectangle((0.0, 0.0), (WIDTH, height), "#ffffff"),
+        text((LEFT, 22.0), "start", TITLE),
+    ];
+    parts.extend(legend());
+    parts.extend(scale(bottom));
+    for (at, (row, times)) in files.rows.iter().zip(times).enumerate() {
+        let top = TOP + at as f64 * GROUP + 8.0;
+        parts.push(text((LEFT - 8.0, top + 1.8 * BAR), "end", &row.name));
+        parts.extend(bars(top, times));
+    }
+    parts.push("</svg>\n".to_string());
+    parts.join("\n")
 }
 
-fn legend(svg: &mut String) {
+fn text((x, y): (f64, f64), anchor: &str, text: &str) -> String {
+    format!(
+        "<text x=\"{x:.1}\" y=\"{y:.1}\" text-anchor=\"{anchor}\" fill=\"#222222\">{text}</text>"
+    )
+}
+
+fn rectangle((x, y): (f64, f64), (width, height): (f64, f64), colour: &str) -> String {
+    format!(
+        "<rect x=\"{x:.1}\" y=\"{y:.1}\" width=\"{width:.1}\" height=\"{height:.1}\" fill=\"{colour}\"/>"
+    )
+}
+
+fn legend() -> Vec<String> {
+    let mut parts = Vec::new();
     for (at, (name, colour)) in BARS.iter().enumerate() {
         let x = LEFT + at as f64 * 110.0;
-        rectangle(svg, (x, 36.0), (12.0, 12.0), colour);
-        text(svg, (x + 18.0, 46.5), "start", name);
+        parts.push(rectangle((x, 36.0), (12.0, 12.0), colour));
+        parts.push(text((x + 18.0, 46.5), "start", name));
     }
+    parts
 }
 
 /// A line at each power of ten.
-fn scale(svg: &mut String, bottom: f64) {
+fn scale(bottom: f64) -> Vec<String> {
+    let mut parts = Vec::new();
     for power in FROM..=TO {
-        let x = place(10_f64.powi(power));
-        rectangle(svg, (x, TOP), (1.0, bottom - TOP), "#dddddd");
-        text(
-            svg,
-            (x, bottom + 18.0),
-            "middle",
-            &grouped(10_f64.powi(power)),
-        );
+        let time = 10_f64.powi(power);
+        parts.push(rectangle(
+            (place(time), TOP),
+            (1.0, bottom - TOP),
+            "#dddddd",
+        ));
+        parts.push(text((place(time), bottom + 18.0), "middle", &grouped(time)));
     }
+    parts
 }
 
-fn bars(svg: &mut String, top: f64, times: &Times) {
+/// The bars of one file, with their times.
+fn bars(top: f64, times: &Times) -> Vec<String> {
     let all = [Some(times.library), Some(times.plain_c), times.evaluator];
+    let mut parts = Vec::new();
     for (at, (time, (_, colour))) in all.into_iter().zip(BARS).enumerate() {
         let Some(time) = time else { continue };
         let y = top + at as f64 * BAR;
-        let width = place(time) - LEFT;
-        rectangle(svg, (LEFT, y), (width, BAR - 2.0), colour);
-        text(
-            svg,
-            (LEFT + width + 5.0, y + BAR - 4.0),
-            "start",
-            &grouped(time),
-        );
+        let end = place(time);
+        parts.push(rectangle((LEFT, y), (end - LEFT, BAR - 2.0), colour));
+        parts.push(text((end + 5.0, y + BAR - 4.0), "start", &grouped(time)));
     }
+    parts
 }
 
 /// Where the scale has this time.

@@ -8,30 +8,29 @@ pub struct Section {
     pub title: &'static str,
     /// What the rows' units are, if a time for each is wanted.
     pub unit: Option<&'static str>,
-    /// Who is asked; the first two are library and plain C.
-    pub sides: &'static [Side],
     pub rows: Vec<Row>,
+    /// Whether it is drawn, and so asked of the evaluator too.
+    pub drawn: bool,
 }
 
 pub const BOTH: [Side; 2] = [Side::Library, Side::PlainC];
-const ALL: [Side; 3] = [Side::Library, Side::PlainC, Side::Evaluator];
 
-/// The first one's is the picture.
+/// The first one is drawn.
 pub fn all() -> Vec<Section> {
     let octets = |title, rows| section(title, Some("octet"), rows);
     vec![
         Section {
-            sides: &ALL,
+            drawn: true,
             ..octets("files", files(sites::all()))
         },
         octets("files not tuned on", files(others::all())),
         octets("shapes", shapes::named()),
         section("small questions", None, small::rows()),
         section("matching, normalising", None, patterns::rows()),
-        octets("growth of the file", growth::sizes()),
-        section("growth of the rules", Some("rule"), growth::rules()),
-        octets("growth of the path", growth::paths()),
-        section("growth of the stars", Some("star"), growth::stars()),
+        octets("growth: octets of the file", growth::sizes()),
+        section("growth: rules that apply", Some("rule"), growth::rules()),
+        octets("growth: octets of the path", growth::paths()),
+        section("growth: stars of a rule", Some("star"), growth::stars()),
     ]
 }
 
@@ -39,8 +38,8 @@ fn section(title: &'static str, unit: Option<&'static str>, rows: Vec<Row>) -> S
     Section {
         title,
         unit,
-        sides: &BOTH,
         rows,
+        drawn: false,
     }
 }
 

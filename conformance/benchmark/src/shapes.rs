@@ -15,7 +15,7 @@ const ENDINGS: [&[u8]; 3] = [b"\n", b"\r", b"\r\n"];
 const PATH: &str = "/archive/2024/news.html";
 
 /// Each is repeated; the crawler is `x`.
-const UNITS: [(&str, &[u8]); 24] = [
+const UNITS: [(&str, &[u8]); 31] = [
     ("u", b"u\n"),
     ("a", b"a\n"),
     ("d", b"d\n"),
@@ -26,23 +26,33 @@ const UNITS: [(&str, &[u8]); 24] = [
     ("user-agen", b"user-agen\n"),
     ("disallo", b"disallo\n"),
     ("allow without a colon", b"allow \n"),
+    ("user-agents:", b"user-agents: x\n"),
+    ("disallowed:", b"disallowed: /\n"),
     ("LF", b"\n"),
     ("CR", b"\r"),
     ("CR LF", b"\r\n"),
     ("NUL", b"\0\n"),
     ("nine NULs and u", b"\0\0\0\0\0\0\0\0\0u\n"),
+    ("# u", b"# u\n"),
     (
-        "a comment of tabs behind rules",
+        "comments of tabs behind rules",
         b"disallow: /a #\t\t\t\t\t\t\t\t\n",
     ),
-    ("agents without rules", b"user-agent: x\n"),
-    ("groups of the crawler", b"user-agent: x\ndisallow: /y\n"),
-    ("groups of another", b"user-agent: y\ndisallow: /y\n"),
-    ("groups of everyone", b"user-agent: *\nallow: /*y\n"),
+    ("agents: the crawler", b"user-agent: x\n"),
+    ("agents: another", b"user-agent: y\n"),
+    ("groups: the crawler", b"user-agent: x\ndisallow: /y\n"),
+    ("groups: another", b"user-agent: y\ndisallow: /y\n"),
+    ("groups: everyone", b"user-agent: *\nallow: /*y\n"),
+    ("groups: escapes", b"user-agent: x\nallow: /%61%2f%e9%7E\n"),
+    (
+        "groups: UTF-8",
+        b"user-agent: x\nallow: /\xC3\xA9\xE3\x83\x84\n",
+    ),
+    ("rules of nobody", b"disallow: /archive\n"),
+    ("unreadable rules", b"disallow: x\n"),
     ("user-agent:", b"user-agent:\n"),
     ("disallow:", b"disallow:\n"),
     ("allow:/", b"allow:/\n"),
-    ("# u", b"# u\n"),
 ];
 
 /// Each fills one line of the longest file.
@@ -53,9 +63,10 @@ const LINES: [(&str, u8); 3] = [
 ];
 
 pub fn named() -> Vec<Row> {
-    let units = UNITS.map(|(name, unit)| shape(name, repeated(unit, NAMED)));
-    let lines = LINES.map(|(name, octet)| shape(name, vec![octet; LONGEST]));
-    units.into_iter().chain(lines).collect()
+    let mut rows = Vec::from(UNITS.map(|(name, unit)| shape(name, repeated(unit, NAMED))));
+    rows.push(shape("groups: a name each", many_names()));
+    rows.extend(LINES.map(|(name, octet)| shape(name, vec![octet; LONGEST])));
+    rows
 }
 
 /// Each unit of one to three of the octets with each ending.
@@ -75,6 +86,19 @@ fn shape(name: impl Into<String>, file: Vec<u8>) -> Row {
 
 fn question() -> Vec<Pair> {
     vec![(b"x".to_vec(), PATH.into())]
+}
+
+/// A thousand groups, of crawlers `a-aaa` to `a-jjj`.
+fn many_names() -> Vec<u8> {
+    let letter = |digit: usize| char::from(b'a' + (digit % 10) as u8);
+    let group = |at: usize| {
+        let name = [at / 100, at / 10, at].map(letter);
+        let name = String::from_iter(name);
+        format!(
+            "User-agent: a-{name}\nDisallow: /{name}\nDisallow: /archive/{name}\nAllow: /tag\n\n"
+        )
+    };
+    (0..1_000).map(group).collect::<String>().into_bytes()
 }
 
 fn repeated(unit: &[u8], octets: usize) -> Vec<u8> {

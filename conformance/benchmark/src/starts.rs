@@ -12,19 +12,22 @@ use crate::sections::{Section, BOTH};
 use crate::{shapes, stop};
 
 /// It is odd, so that one of them is the median.
-pub const STARTS: usize = 7;
+pub const STARTS: usize = 9;
 
 /// Each start has this variable longer by so many octets, which lie on the
 /// stack.
 const VARIABLE: &str = "BENCHMARK_STACK";
-const LONGER: usize = 592;
+const LONGER: usize = 464;
 
 /// A pass is repeated until it takes about so long.
 const PASS: Duration = Duration::from_micros(20);
 
-/// Turns of a row at least, and how long it takes turns.
-const TURNS: usize = 5;
-const ROW: Duration = Duration::from_millis(15);
+/// Rounds over all rows, so that a slow moment doesn't meet a row in each.
+const ROUNDS: usize = 3;
+
+/// Turns of a row in a round at least, and how long it takes turns.
+const TURNS: usize = 3;
+const ROW: Duration = Duration::from_millis(8);
 
 /// Nanoseconds of a question, medians over the starts.
 pub struct Times {
@@ -36,21 +39,35 @@ pub struct Times {
     pub ratios: [f64; 3],
 }
 
-/// In one start: prints a line for each row, with the times of its sides.
+/// In one start: prints a line for each row, with the least time of each side.
 pub fn start(sections: &[Section]) {
-    for section in sections {
-        for row in &section.rows {
-            print_times(&least(row, section.sides, ROW));
+    let mut least = round(sections);
+    for _ in 1..ROUNDS {
+        let times = round(sections).into_iter().flatten();
+        for (least, time) in least.iter_mut().flatten().zip(times) {
+            *least = least.min(time);
         }
     }
-    for row in shapes::small() {
-        print_times(&least(&row, &BOTH, Duration::ZERO));
+    for times in least {
+        let times: Vec<String> = times.iter().map(f64::to_string).collect();
+        println!("{}", times.join(" "));
     }
 }
 
-fn print_times(times: &[f64]) {
-    let times: Vec<String> = times.iter().map(f64::to_string).collect();
-    println!("{}", times.join(" "));
+/// The times of all rows, those of the small shapes last.
+fn round(sections: &[Section]) -> Vec<Vec<f64>> {
+    let mut all = Vec::new();
+    for section in sections {
+        for row in &section.rows {
+            let mut times = least(row, &BOTH, ROW);
+            if section.drawn {
+                times.extend(least(row, &[Side::Evaluator], Duration::ZERO));
+            }
+            all.push(times);
+        }
+    }
+    all.extend(shapes::small().map(|row| least(&row, &BOTH, Duration::ZERO)));
+    all
 }
 
 /// The least nanoseconds of a question by each side, which take turns.

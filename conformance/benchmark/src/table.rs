@@ -16,14 +16,13 @@ const MOST_RATIO: f64 = 1.5;
 pub fn run() {
     let sections = sections::all();
     check(&sections);
-    let times = starts::times();
+    println!("ns and instructions of a question, in a minute and a half; times are medians of");
+    println!("{STARTS} program starts, of the least time in each");
     let counts = counting::counts();
-    println!(
-        "ns and instructions of a question; times are medians of {STARTS} program starts, of the least in each"
-    );
     if counts.is_none() {
         println!("valgrind isn't installed, so instructions are left out");
     }
+    let times = starts::times();
     let mut at = 0;
     for section in &sections {
         print_section(section, &times[at..], counts.as_ref().map(|all| &all[at..]));
@@ -44,7 +43,7 @@ fn print_section(section: &Section, times: &[Times], counts: Option<&[Counts]>) 
     let unit = section.unit.map(|unit| format!("ns/{unit}"));
     println!();
     println!(
-        "{:<31} {:>10} {:>10} {:>9} {:>9} {:>6} {:>6} {:>6} {:>12} {:>12} {:>11} {:>6}",
+        "{:<34} {:>10} {:>10} {:>9} {:>9} {:>6} {:>6} {:>6} {:>12} {:>12} {:>11} {:>6}",
         section.title,
         "library",
         "plain C",
@@ -74,7 +73,7 @@ fn print_row(row: &Row, by_unit: bool, times: &Times, counts: Option<&Counts>) {
     };
     let [ratio, least, most] = times.ratios;
     print!(
-        "{:<31} {:>10.1} {:>10.1} {:>9} {:>9} {ratio:>6.2} {least:>6.2} {most:>6.2}",
+        "{:<34} {:>10.1} {:>10.1} {:>9} {:>9} {ratio:>6.2} {least:>6.2} {most:>6.2}",
         row.name,
         times.library,
         times.plain_c,
@@ -118,10 +117,10 @@ fn print_small_shapes(times: &[Times]) {
 fn print_dearest(title: &str, mut shapes: Vec<Shape>, by: fn(&Shape) -> f64) {
     shapes.sort_by(|one, other| by(other).total_cmp(&by(one)));
     println!(
-        "{title:<31} {:>10} {:>10} {:>6}",
+        "{title:<34} {:>10} {:>10} {:>6}",
         "library", "plain C", "ratio"
     );
     for (name, library, plain_c, ratio) in &shapes[..SHOWN] {
-        println!("{name:<31} {library:>10.3} {plain_c:>10.3} {ratio:>6.2}");
+        println!("{name:<34} {library:>10.3} {plain_c:>10.3} {ratio:>6.2}");
     }
 }
