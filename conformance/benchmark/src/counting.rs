@@ -3,9 +3,10 @@
 use std::hint::black_box;
 use std::path::Path;
 use std::process::{self, Command};
-use std::{env, fs};
+use std::{env, fs, thread};
 
-use crate::sections::{Section, BOTH};
+use crate::rows::Both;
+use crate::sections::Section;
 use crate::stop;
 
 /// Only what these do is counted.
@@ -21,11 +22,21 @@ const COUNTED: [&str; 6] = [
 /// Instructions of a question, of library and plain C.
 pub type Counts = [f64; 2];
 
-/// Under callgrind: makes one pass of each row and side. Each is ended by a
-/// call of `pass_ended`, where callgrind writes down what it has counted.
+/// Under callgrind: makes one pass of each row and side, on a stack of its own,
+/// since the other begins where the program's variables and arguments end, and
+/// memory is cleared by other instructions from another address on.
 pub fn count(sections: &[Section]) {
+    let both = Both::load(0);
+    thread::scope(|scope| {
+        scope.spawn(|| count_all(sections, &both));
+    });
+}
+
+/// Each pass is ended by a call of `pass_ended`, where callgrind writes down
+/// what it has counted.
+fn count_all(sections: &[Section], both: &Both) {
     for row in sections.iter().flat_map(|section| &section.rows) {
-        for side in BOTH {
+        for side in both.sides() {
             black_box(row.pass(side));
             pass_ended();
         }

@@ -1,5 +1,6 @@
-//! A build of the library, loaded from its archive. Two builds have the same
-//! names, so they can't be linked into one program.
+//! A build of the library or of plain C, loaded from its archive. Two builds
+//! have the same names, so they can't be linked into one program; and one that
+//! is loaded can be put to another place in memory each time.
 
 use std::env;
 use std::ffi::{c_char, c_int, c_void, CStr, CString};
@@ -24,8 +25,8 @@ const WRITABLE: &str = "set TMPDIR to a folder that can be written";
 const NOW_AND_LOCAL: c_int = 2;
 
 extern "C" {
-    fn dlopen(path: *const c_char, flags: c_int) -> *mut c_void;
-    fn dlsym(handle: *mut c_void, name: *const c_char) -> *mut c_void;
+    fn dlopen(path: *const c_char, flags: c_int) -> Handle;
+    fn dlsym(handle: Handle, name: *const c_char) -> *mut c_void;
 }
 
 /// Where octets start. A length follows it.
@@ -35,7 +36,10 @@ type OfPath = unsafe extern "C" fn(Start, usize, *mut u8, usize) -> usize;
 type OfMatch = unsafe extern "C" fn(Start, usize, Start, usize) -> usize;
 type OfDecision = unsafe extern "C" fn(Start, usize, Start, usize, Start, usize) -> usize;
 
-/// The functions that are measured.
+/// A loaded object.
+pub type Handle = *mut c_void;
+
+/// The library's functions that are measured.
 pub struct Loaded {
     line_kind: OfLine,
     normalise: OfPath,
@@ -70,22 +74,32 @@ impl Loaded {
     }
 }
 
-/// Loads each archive, with so many octets before its code.
+/// Loads each archive of the library, with so many octets before its code.
 pub fn load(wanted: &[(&str, usize)]) -> Vec<Loaded> {
+    let handles = open(wanted);
+    let archives = wanted.iter().map(|(archive, _)| archive);
+    let builds = handles.into_iter().zip(archives);
+    builds
+        .map(|(handle, archive)| library(handle, archive))
+        .collect()
+}
+
+/// Opens each archive, with so many octets before its code.
+pub fn open(wanted: &[(&str, usize)]) -> Vec<Handle> {
     let folder = env::temp_dir().join(format!("robots-benchmark-{}", process::id()));
     if fs::create_dir(&folder).is_err() {
         stop(&format!("no folder can be made: {WRITABLE}"));
     }
-    let loaded: Result<_, String> = (0..)
+    let opened: Result<_, String> = (0..)
         .zip(wanted)
-        .map(|(at, (archive, before))| load_one(&folder.join(at.to_string()), archive, *before))
+        .map(|(at, (archive, before))| open_one(&folder.join(at.to_string()), archive, *before))
         .collect();
     // only now, since dlopen knows a file by its number, which another gets once it is removed
     fs::remove_dir_all(&folder).expect("this process has made the folder");
-    loaded.unwrap_or_else(|fault| stop(&fault))
+    opened.unwrap_or_else(|fault| stop(&fault))
 }
 
-fn load_one(place: &Path, archive: &str, before: usize) -> Result<Loaded, String> {
+fn open_one(place: &Path, archive: &str, before: usize) -> Result<Handle, String> {
     let object = shared_object(place, archive, before)?;
     let path = CString::new(object.as_os_str().as_bytes()).expect("a path holds no NUL");
     // SAFETY: the path ends with NUL.
@@ -95,16 +109,20 @@ fn load_one(place: &Path, archive: &str, before: usize) -> Result<Loaded, String
             "{archive} can't be loaded: set TMPDIR to a folder from which code can be run"
         ));
     }
+    Ok(handle)
+}
+
+/// The functions of a library that is loaded.
+pub fn library(handle: Handle, archive: &str) -> Loaded {
     // SAFETY: the object is loaded, and include/robots.h gives the functions these types.
-    let found = unsafe {
+    unsafe {
         Loaded {
-            line_kind: function(handle, c"robots_line_kind", archive)?,
-            normalise: function(handle, c"robots_normalise", archive)?,
-            match_found: function(handle, c"robots_match_found", archive)?,
-            decide_disallow: function(handle, c"robots_decide_disallow", archive)?,
+            line_kind: function(handle, c"robots_line_kind", archive),
+            normalise: function(handle, c"robots_normalise", archive),
+            match_found: function(handle, c"robots_match_found", archive),
+            decide_disallow: function(handle, c"robots_decide_disallow", archive),
         }
-    };
-    Ok(found)
+    }
 }
 
 /// Makes a shared object of an archive.
@@ -135,18 +153,12 @@ fn shared_object(place: &Path, archive: &str, before: usize) -> Result<PathBuf, 
 ///
 /// The handle has to be that of a loaded object, and `Function` the type of
 /// the function of this name.
-unsafe fn function<Function>(
-    handle: *mut c_void,
-    name: &CStr,
-    archive: &str,
-) -> Result<Function, String> {
+pub unsafe fn function<Function>(handle: Handle, name: &CStr, archive: &str) -> Function {
     let found = dlsym(handle, name.as_ptr());
     if found.is_null() {
-        return Err(format!(
-            "{archive} has no {}: {WANTED}",
-            name.to_string_lossy()
-        ));
+        let name = name.to_string_lossy();
+        stop(&format!("{archive} has no {name}: {WANTED}"));
     }
     // a pointer to a function is as long as any other
-    Ok(mem::transmute_copy(&found))
+    mem::transmute_copy(&found)
 }

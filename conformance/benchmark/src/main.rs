@@ -9,6 +9,7 @@ mod eleven;
 mod growth;
 mod inputs;
 mod loaded;
+mod loaded_plain;
 mod measure;
 mod others;
 mod passes;
@@ -44,13 +45,18 @@ fn main() {
         [] => run_all(),
         ["table"] => table::run(),
         // what the table starts itself
-        ["start"] => starts::start(&sections::all()),
+        ["start", number] => starts::start(number_of(number), &sections::all()),
         ["count"] => counting::count(&sections::all()),
         ["deciding"] => run_deciding(),
         ["beside", older] => beside::run(older),
         ["once", archive, row] => beside::once(archive, row),
         _ => misused("it takes no such arguments"),
     }
+}
+
+fn number_of(text: &str) -> usize {
+    text.parse()
+        .unwrap_or_else(|_| misused("a start has a number"))
 }
 
 fn print_unit() {

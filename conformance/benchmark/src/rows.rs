@@ -3,17 +3,40 @@
 
 use std::hint::black_box;
 
+use crate::loaded::{self, Loaded, LINKED};
+use crate::loaded_plain::{self, LoadedPlain};
 use crate::passes::MOST;
 
 /// Two inputs of a question: a name and a path, or a pattern and a path.
 pub type Pair = (Vec<u8>, Vec<u8>);
 
 /// Who is asked.
-#[derive(Clone, Copy, PartialEq, Eq)]
-pub enum Side {
-    Library,
-    PlainC,
+#[derive(Clone, Copy)]
+pub enum Side<'a> {
+    Library(&'a Loaded),
+    PlainC(&'a LoadedPlain),
     Evaluator,
+}
+
+/// Library and plain C, loaded.
+pub struct Both {
+    library: Loaded,
+    plain_c: LoadedPlain,
+}
+
+impl Both {
+    /// With so many octets before the code of each.
+    pub fn load(before: usize) -> Both {
+        let handles = loaded::open(&[(LINKED, before), (plain::ARCHIVE, before)]);
+        Both {
+            library: loaded::library(handles[0], LINKED),
+            plain_c: loaded_plain::plain_c(handles[1]),
+        }
+    }
+
+    pub fn sides(&self) -> [Side<'_>; 2] {
+        [Side::Library(&self.library), Side::PlainC(&self.plain_c)]
+    }
 }
 
 /// What is asked.
@@ -62,24 +85,25 @@ impl Row {
 }
 
 fn decide_all(side: Side, file: &[u8], pairs: &[Pair]) -> usize {
+    let file = || black_box(file);
     match side {
-        Side::Library => sum(pairs, |name, path| {
-            library::decide_disallow(black_box(file), name, path)
+        Side::Library(build) => sum(pairs, |name, path| {
+            build.decide_disallow(file(), name, path)
         }),
-        Side::PlainC => sum(pairs, |name, path| {
-            plain::decide(black_box(file), name, path).disallow
+        Side::PlainC(build) => sum(pairs, |name, path| {
+            build.decide(file(), name, path).disallow
         }),
         Side::Evaluator => sum(pairs, |name, path| {
-            usize::from(evaluator::decide(black_box(file), name, path).disallow)
+            usize::from(evaluator::decide(file(), name, path).disallow)
         }),
     }
 }
 
 fn match_all(side: Side, pairs: &[Pair]) -> usize {
     match side {
-        Side::Library => sum(pairs, library::match_found),
-        Side::PlainC => sum(pairs, |pattern, path| {
-            plain::match_pattern(pattern, path).found
+        Side::Library(build) => sum(pairs, |pattern, path| build.match_found(pattern, path)),
+        Side::PlainC(build) => sum(pairs, |pattern, path| {
+            build.match_pattern(pattern, path).found
         }),
         Side::Evaluator => sum(pairs, |pattern, path| {
             usize::from(evaluator::match_pattern(pattern, path).found)
@@ -96,8 +120,8 @@ fn sum(pairs: &[Pair], answer: impl Fn(&[u8], &[u8]) -> usize) -> usize {
 
 fn normalise_all(side: Side, paths: &[Vec<u8>]) -> usize {
     match side {
-        Side::Library => written(paths, library::normalise),
-        Side::PlainC => written(paths, |path, buffer| plain::normalise(path, buffer).written),
+        Side::Library(build) => written(paths, |path, buffer| build.normalise(path, buffer)),
+        Side::PlainC(build) => written(paths, |path, buffer| build.normalise(path, buffer).written),
         Side::Evaluator => written(paths, |path, buffer| {
             evaluator::normalise(path, buffer).written
         }),

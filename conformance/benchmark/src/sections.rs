@@ -1,6 +1,6 @@
 //! The sections of the table, with their rows.
 
-use crate::rows::{Pair, Row, Side};
+use crate::rows::{Pair, Row};
 use crate::sites::Site;
 use crate::{deciding, growth, others, patterns, shapes, sites, small};
 
@@ -12,8 +12,6 @@ pub struct Section {
     /// Whether it is drawn, and so asked of the evaluator too.
     pub drawn: bool,
 }
-
-pub const BOTH: [Side; 2] = [Side::Library, Side::PlainC];
 
 /// The first one is drawn.
 pub fn all() -> Vec<Section> {

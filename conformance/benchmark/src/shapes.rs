@@ -74,7 +74,7 @@ pub fn small() -> impl Iterator<Item = Row> {
     units().flat_map(|unit| {
         ENDINGS.map(|ending| {
             let unit = [unit.as_slice(), ending].concat();
-            let name = unit.escape_ascii().to_string();
+            let name = format!("\"{}\"", unit.escape_ascii());
             shape(name, repeated(&unit, SMALL))
         })
     })

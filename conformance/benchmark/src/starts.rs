@@ -1,5 +1,5 @@
-//! Times of all rows, in several program starts: one start can be twice as slow
-//! as another, by the stack's address.
+//! Times of all rows, in several program starts: one can be twice as slow as
+//! another, by where stack and code lie.
 
 use std::env;
 use std::hint::black_box;
@@ -7,8 +7,8 @@ use std::process::Command;
 use std::time::{Duration, Instant};
 
 use crate::measure::median;
-use crate::rows::{Row, Side};
-use crate::sections::{Section, BOTH};
+use crate::rows::{Both, Row, Side};
+use crate::sections::Section;
 use crate::{shapes, stop};
 
 /// It is odd, so that one of them is the median.
@@ -18,6 +18,10 @@ pub const STARTS: usize = 9;
 /// stack.
 const VARIABLE: &str = "BENCHMARK_STACK";
 const LONGER: usize = 464;
+
+/// Each start has so many octets more before the code of library and plain C.
+/// Functions begin at multiples of 16 octets.
+const FURTHER: usize = 16;
 
 /// A pass is repeated until it takes about so long.
 const PASS: Duration = Duration::from_micros(20);
@@ -40,10 +44,11 @@ pub struct Times {
 }
 
 /// In one start: prints a line for each row, with the least time of each side.
-pub fn start(sections: &[Section]) {
-    let mut least = round(sections);
+pub fn start(number: usize, sections: &[Section]) {
+    let both = Both::load(FURTHER * number);
+    let mut least = round(sections, &both);
     for _ in 1..ROUNDS {
-        let times = round(sections).into_iter().flatten();
+        let times = round(sections, &both).into_iter().flatten();
         for (least, time) in least.iter_mut().flatten().zip(times) {
             *least = least.min(time);
         }
@@ -55,24 +60,28 @@ pub fn start(sections: &[Section]) {
 }
 
 /// The times of all rows, those of the small shapes last.
-fn round(sections: &[Section]) -> Vec<Vec<f64>> {
+fn round(sections: &[Section], both: &Both) -> Vec<Vec<f64>> {
+    let sides = both.sides();
     let mut all = Vec::new();
     for section in sections {
         for row in &section.rows {
-            let mut times = least(row, &BOTH, ROW);
+            let mut times = least(row, &sides, ROW);
             if section.drawn {
                 times.extend(least(row, &[Side::Evaluator], Duration::ZERO));
             }
             all.push(times);
         }
     }
-    all.extend(shapes::small().map(|row| least(&row, &BOTH, Duration::ZERO)));
+    all.extend(shapes::small().map(|row| least(&row, &sides, Duration::ZERO)));
     all
 }
 
 /// The least nanoseconds of a question by each side, which take turns.
 fn least(row: &Row, sides: &[Side], long: Duration) -> Vec<f64> {
-    let repeats = repeats(row);
+    let repeats = match long {
+        Duration::ZERO => 1,
+        _ => repeats(row, sides[0]),
+    };
     let questions = (repeats * row.questions()) as f64;
     let mut least = vec![f64::INFINITY; sides.len()];
     let begin = Instant::now();
@@ -92,10 +101,10 @@ fn least(row: &Row, sides: &[Side], long: Duration) -> Vec<f64> {
 }
 
 /// After one pass that doesn't count.
-fn repeats(row: &Row) -> usize {
-    black_box(row.pass(Side::Library));
+fn repeats(row: &Row, side: Side) -> usize {
+    black_box(row.pass(side));
     let start = Instant::now();
-    black_box(row.pass(Side::PlainC));
+    black_box(row.pass(side));
     let taken = start.elapsed().as_nanos().max(1);
     (PASS.as_nanos() / taken).max(1) as usize
 }
@@ -114,7 +123,7 @@ pub fn times() -> Vec<Times> {
 fn started(number: usize) -> Vec<Vec<f64>> {
     let program = env::current_exe().expect("the program has a path");
     let started = Command::new(program)
-        .arg("start")
+        .args(["start", &number.to_string()])
         .env(VARIABLE, "x".repeat(LONGER * number))
         .output()
         .expect("the program can start itself");

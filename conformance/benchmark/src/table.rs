@@ -14,10 +14,10 @@ const MOST_AN_OCTET: f64 = 4.0;
 const MOST_RATIO: f64 = 1.5;
 
 pub fn run() {
+    println!("ns and instructions of a question, in about a minute; times are medians of");
+    println!("{STARTS} program starts, of the least time in each");
     let sections = sections::all();
     check(&sections);
-    println!("ns and instructions of a question, in a minute and a half; times are medians of");
-    println!("{STARTS} program starts, of the least time in each");
     let counts = counting::counts();
     if counts.is_none() {
         println!("valgrind isn't installed, so instructions are left out");
@@ -30,6 +30,8 @@ pub fn run() {
     }
     print_small_shapes(&times[at..]);
     picture::write(&sections[0], &times).unwrap_or_else(|fault| stop(&fault));
+    println!();
+    println!("drew docs/benchmark.svg");
 }
 
 /// All rows are answered alike.
@@ -40,30 +42,38 @@ fn check(sections: &[Section]) {
 }
 
 fn print_section(section: &Section, times: &[Times], counts: Option<&[Counts]>) {
-    let unit = section.unit.map(|unit| format!("ns/{unit}"));
-    println!();
-    println!(
-        "{:<34} {:>10} {:>10} {:>9} {:>9} {:>6} {:>6} {:>6} {:>12} {:>12} {:>11} {:>6}",
-        section.title,
-        "library",
-        "plain C",
-        unit.clone().unwrap_or_default(),
-        unit.map_or("", |_| "plain C"),
-        "ratio",
-        "least",
-        "most",
-        "instructions",
-        "plain C",
-        section
-            .unit
-            .map(|unit| format!("each {unit}"))
-            .unwrap_or_default(),
-        "ratio"
-    );
+    print_head(section, counts.is_some());
     for (at, row) in section.rows.iter().enumerate() {
         let counts = counts.map(|counts| &counts[at]);
         print_row(row, section.unit.is_some(), &times[at], counts);
     }
+}
+
+fn print_head(section: &Section, counted: bool) {
+    let by_unit = |before: &str| match section.unit {
+        Some(unit) => format!("{before}{unit}"),
+        None => String::new(),
+    };
+    println!();
+    print!(
+        "{:<34} {:>10} {:>10} {:>9} {:>9} {:>6} {:>6} {:>6}",
+        section.title,
+        "library",
+        "plain C",
+        by_unit("ns/"),
+        section.unit.map_or("", |_| "plain C"),
+        "ratio",
+        "least",
+        "most"
+    );
+    if counted {
+        let each = by_unit("each ");
+        print!(
+            " {:>12} {:>12} {each:>11} {:>6}",
+            "instructions", "plain C", "ratio"
+        );
+    }
+    println!();
 }
 
 fn print_row(row: &Row, by_unit: bool, times: &Times, counts: Option<&Counts>) {

@@ -2,6 +2,9 @@
 //! it for use: the library is measured against it. It decides, matches and
 //! normalises, and tells no kinds of lines.
 
+/// The C as it was compiled, for a program that loads it.
+pub const ARCHIVE: &str = concat!(env!("OUT_DIR"), "/libplain.a");
+
 /// The seven numbers of a decision. A refused one holds its number, disallow,
 /// and zeros.
 #[repr(C)]
