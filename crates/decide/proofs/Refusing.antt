@@ -8,7 +8,7 @@ use lib.ListN.{length}
 use Rattle.lists.proofs.Bools.{split}
 use Rattle.protocol.specs.Normal.{normalPath}
 use Rattle.protocol.specs.Refusals.{badName, pathRows, refusal, decideRefusal}
-use Rattle.protocol.proofs.Limits.{not-too-long, short-known, path-room}
+use Rattle.protocol.proofs.Limits.{not-too-long, short-known, path-known, path-room}
 
 module _ (file name path : List ℕ) where
   module _ (l : length file ≤ 512_000) where
@@ -26,7 +26,13 @@ module _ (file name path : List ℕ) where
     unfolding decideRefusal
     short-file = short-known file (badName name ∷ pathRows path) h
 
-    pub path-fits : length (normalPath path) ≤ 6_142
-    path-fits =
+    good-path : refusal (pathRows path) ≡ 0
+    good-path =
         split (badName name .given) (λ e. absurd (omega (arith, h, bad-name short-file e)))
-        (λ e. path-room path (sym (good-name short-file e) ∙ h))
+        (λ e. sym (good-name short-file e) ∙ h)
+
+    pub short-path : length path ≤ 2_048
+    short-path = path-known path good-path .1
+
+    pub path-fits : length (normalPath path) ≤ 6_142
+    path-fits = path-room path good-path

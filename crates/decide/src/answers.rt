@@ -81,6 +81,16 @@ fn answer_short(classes: &ClassTable, file: &[u8], name: &[u8], path: &[u8]) -> 
     answer_in(classes, file, name, path, &mut buffer, &mut scratch)
 }
 
+// Room for a normalised path of at most 1,536 octets.
+fn answer_middle(classes: &ClassTable, file: &[u8], name: &[u8], path: &[u8]) -> Decision
+    requires { ⌜ (now classes ≡ classTable) × (length (now file) ≤ 512000) × (length (normalPath (now path)) ≤ 1536) ⌝ }
+    ensures { λ r. ⌜ r ≡ answered (now (file .entry)) (entries (now (file .entry))) (now (name .entry)) (normalPath (now (path .entry))) ⌝ }
+{
+    let mut buffer = [0u8; 1536];
+    let mut scratch = [0u8; 1536];
+    answer_in(classes, file, name, path, &mut buffer, &mut scratch)
+}
+
 // Room for the longest normalised path.
 fn answer_long(classes: &ClassTable, file: &[u8], name: &[u8], path: &[u8]) -> Decision
     requires { ⌜ (now classes ≡ classTable) × (length (now file) ≤ 512000) × (length (normalPath (now path)) ≤ 6142) ⌝ }
@@ -91,13 +101,32 @@ fn answer_long(classes: &ClassTable, file: &[u8], name: &[u8], path: &[u8]) -> D
     answer_in(classes, file, name, path, &mut buffer, &mut scratch)
 }
 
+// The answer about a path that is its own normalised path: nothing is copied, and there is room for the runs of patterns.
+fn answer_unchanged(classes: &ClassTable, file: &[u8], name: &[u8], path: &[u8]) -> Decision
+    requires { ⌜ (now classes ≡ classTable) × (length (now file) ≤ 512000) × (length (now path) ≤ 2048) ⌝ }
+    ensures { λ r. ⌜ r ≡ answered (now (file .entry)) (entries (now (file .entry))) (now (name .entry)) (now (path .entry)) ⌝ }
+{
+    if path.len() <= 128 {
+        let mut scratch = [0u8; 128];
+        return answer_for(classes, file, name, path, &mut scratch);
+    }
+    let mut scratch = [0u8; 2048];
+    answer_for(classes, file, name, path, &mut scratch)
+}
+
 // The answer where nothing is refused.
 fn answer(classes: &ClassTable, file: &[u8], name: &[u8], path: &[u8]) -> Decision
     requires { ⌜ (now classes ≡ classTable) × (decideRefusal (now file) (now name) (now path) ≡ 0) ⌝ }
     ensures { λ r. ⌜ r ≡ answered (now (file .entry)) (entries (now (file .entry))) (now (name .entry)) (normalPath (now (path .entry))) ⌝ }
 {
+    if !normal::may_change(path) {
+        return answer_unchanged(classes, file, name, path);
+    }
     if path.len() <= 128 {
         return answer_short(classes, file, name, path);
+    }
+    if path.len() <= 512 {
+        return answer_middle(classes, file, name, path);
     }
     answer_long(classes, file, name, path)
 }

@@ -80,13 +80,17 @@ module _ (t : List ℕ) where
   unfolding octets sameIgnoringCase same
   any-begins = refl
 
-  field-begins : beginsName (fieldAt t) t ≡ true
+  pub field-begins : beginsName (fieldAt t) t ≡ true
   unfolding fieldAt
   field-begins =
       split (beginsName Field.Disallow t) (λ c. rw c c)
       (λ c.
       split (beginsName Field.Allow t) (λ b. rw (c, b) b)
       (λ b. split (beginsName Field.Agent t) (λ a. rw (c, b, a) a) (λ a. rw (c, b, a) any-begins)))
+
+  pub agent-told : beginsName Field.Agent t ≡ true → Field.Agent ≡ fieldAt t
+  unfolding fieldAt
+  agent-told e = rw (agent-disallow e, agent-allow e, e)
 
   -- it begins with none of them, by its first octet
   pub no-agent : (lowerCase (getD t 0 0) ≡ 117 → ⊥) → beginsName Field.Agent t ≡ false
@@ -178,7 +182,7 @@ pub lead-inside : (r : List ℕ) (n : ℕ) → n ≤ length r → n + lead (take
 lead-inside r n h = omega (arith, trim-fits (drop n r), length-drop n r, ap lead (rest-of n r))
 
 -- past an `if let`, the tag of a field is one of those that weren't asked for
-abbrev Known : Field → Type 0
+abbrev pub Known : Field → Type 0
 Known f = OneOf (0 ∷ 1 ∷ 2 ∷ []) (tagOf F.the-type f)
 
 head-of-field : (f : Field) (p : Place) → Known f → record { field = f; value = p } ≡ headAt f p

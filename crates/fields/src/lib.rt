@@ -1,12 +1,12 @@
 // The field of a line, and where its value begins.
 
+pub mod near; // near.rt: the same, sooner, of a line in a file that is written as most are
+
 ghost use mathlib.Core.Path.{_≡_};
-ghost use lib.ListN.{length, drop};
-ghost use Rattle.lists.specs.Lists.{upTo};
+ghost use lib.ListN.{drop};
 ghost use Rattle.protocol.specs.Text.{begins};
 ghost use Rattle.protocol.specs.Lines.{placeAt};
 ghost use Rattle.protocol.specs.Classes.{classTable};
-ghost use Rattle.text.specs.Parts.{equals};
 ghost use Rattle.fields.specs.Fields.{headOf};
 ghost use Rattle.fields.specs.Names.{nameLength, rowOf, beginsName, fieldAt};
 use protocol::ClassTable;
@@ -39,21 +39,14 @@ fn row_of(field: Field) -> usize
     }
 }
 
-// The octets of a row in front of its zeros.
-fn row_length(row: [u8; 10]) -> usize
-    ensures { λ r. ⌜ r ≡ length (upTo (equals 0) row) ⌝ }
-{
-    text::find(&row, 0)
-}
-
-// The octets of a field's name: a zero can stand in a file too.
-fn name_length(field: Field) -> usize
+// The octets of a field's name.
+pub fn name_length(field: Field) -> usize
     ensures { λ r. ⌜ r ≡ nameLength field ⌝ }
 {
     match field {
-        Field::Agent => row_length(FIELDS[0]),
-        Field::Allow => row_length(FIELDS[1]),
-        Field::Disallow => row_length(FIELDS[2]),
+        Field::Agent => 10,
+        Field::Allow => 5,
+        Field::Disallow => 8,
         Field::Other => 0,
     }
 }
@@ -97,7 +90,7 @@ pub fn colon_at(s: &[u8], at: Place) -> bool
     s[i] == b':'
 }
 
-fn no_head() -> Head
+pub fn no_head() -> Head
     ensures { λ r. ⌜ r ≡ record { field = Field.Other; value = placeAt 0 } ⌝ }
 {
     Head {

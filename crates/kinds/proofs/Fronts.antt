@@ -51,7 +51,7 @@ module _ (l : List ℕ) (n : ℕ) where
   pub ended-here : n < length l → ended (drop n l) ≡ stop (getD l n 0)
   ended-here h = rw (drop-one l n 0 h)
 
-above : (x : ℕ) → ordinary x ≡ true → 36 ≤ x
+pub above : (x : ℕ) → ordinary x ≡ true → 36 ≤ x
 above x e = leb-true 36 x (and-left (leb 36 x) (leb x 127) e)
 
 -- where ordinary octets go on to the end, they are what is examined

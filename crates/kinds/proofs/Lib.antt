@@ -2,3 +2,4 @@ mod Answering
 mod Fronts
 mod Idle
 mod Kinding
+mod Values

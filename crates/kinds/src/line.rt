@@ -22,7 +22,7 @@ use protocol::Side;
 use protocol::Sort;
 
 // The agent of a value, which stands at that place of the line.
-fn agent_at(classes: &ClassTable, place: Place, value: &[u8]) -> Agent
+pub fn agent_at(classes: &ClassTable, place: Place, value: &[u8]) -> Agent
     requires { ⌜ now classes ≡ classTable ⌝ }
     ensures { λ r. ⌜ r ≡ agentAt place (now (value .entry)) ⌝ }
 {
@@ -37,7 +37,7 @@ fn agent_at(classes: &ClassTable, place: Place, value: &[u8]) -> Agent
 }
 
 // The pattern of a value, likewise; whether it is readable has been asked.
-fn pattern_at(place: Place, value: &[u8], readable: bool) -> Pattern
+pub fn pattern_at(place: Place, value: &[u8], readable: bool) -> Pattern
     requires { ⌜ readable ≡ readablePattern (now value) ⌝ }
     ensures { λ r. ⌜ r ≡ patternAt place (now (value .entry)) ⌝ }
 {
@@ -52,7 +52,7 @@ fn pattern_at(place: Place, value: &[u8], readable: bool) -> Pattern
 }
 
 // The octets of the value that a text begins with.
-fn value_length(classes: &ClassTable, s: &[u8]) -> usize
+pub fn value_length(classes: &ClassTable, s: &[u8]) -> usize
     requires { ⌜ now classes ≡ classTable ⌝ }
     ensures { λ r. ⌜ r ≡ length (trimEnd (upTo stop (now (s .entry)))) ⌝ }
 {
@@ -61,7 +61,7 @@ fn value_length(classes: &ClassTable, s: &[u8]) -> usize
 }
 
 // The agent of the value that begins there.
-fn agent_of(classes: &ClassTable, r: &[u8], value: Place) -> Agent
+pub fn agent_of(classes: &ClassTable, r: &[u8], value: Place) -> Agent
     requires { ⌜ (now classes ≡ classTable) × (value .offset ≤ length (now r)) ⌝ }
     ensures { λ a. ⌜ a ≡ agentAt value (valueAt value (now (r .entry))) ⌝ }
 {
@@ -72,7 +72,7 @@ fn agent_of(classes: &ClassTable, r: &[u8], value: Place) -> Agent
 }
 
 // Nothing is examined from there on. Most octets are past all stops, which is told sooner than their class.
-fn ends_at(classes: &ClassTable, s: &[u8], at: Place) -> bool
+pub fn ends_at(classes: &ClassTable, s: &[u8], at: Place) -> bool
     requires { ⌜ now classes ≡ classTable ⌝ }
     ensures { λ r. ⌜ r ≡ ended (drop (at .offset) (now (s .entry))) ⌝ }
 {
@@ -121,7 +121,7 @@ fn idle_kind(classes: &ClassTable, r: &[u8]) -> Kind
 }
 
 // The side of a rule's field. A field that is no rule's has none; Allow stands for it.
-fn side_of(field: Field) -> Side
+pub fn side_of(field: Field) -> Side
     ensures { λ r. ⌜ r ≡ sideOf field ⌝ }
 {
     match field {

@@ -46,6 +46,16 @@ one-ending [] h e g = absurd (omega arith)
 one-ending (c ∷ []) h e g = absurd (omega arith)
 one-ending (c ∷ d ∷ l) h e g = other-ending c (d ∷ l) e g
 
+-- an octet closes its line where it is CR or LF and no LF follows it
+pub ends-closed : (c : ℕ) → lineEnd c ≡ true → closes c false ≡ true
+unfolding lineEnd
+ends-closed c = go (is "\r" c) (is "\n" c)
+  where
+    go : (r f : Bool) → (r || f) ≡ true → (f || (r && true)) ≡ true
+    go r true e = refl
+    go true false e = refl
+    go false false e = e
+
 -- an octet that closes its line
 module _ (c : ℕ) (lf : Bool) where
   pub closing-ends : closes c lf ≡ true → lineEnd c ≡ true

@@ -1,4 +1,5 @@
 pub mod Endings
 pub mod Forward
+pub mod Pairs
 pub mod Passing
 pub mod Skips

@@ -1,9 +1,12 @@
 // Passing over octets in which no agent or rule line begins.
 
 ghost use mathlib.Core.Path.{_≡_};
-ghost use Prim.Native.Nat.{_+_, _≤_};
+ghost use mathlib.Core.Bool.{false};
+ghost use mathlib.Core.List.{zip};
+ghost use Prim.Native.Nat.{_+_, _≤_, _<_};
 ghost use lib.ListN.{length};
-ghost use Rattle.lines.specs.Skips.{entryOctet, quiet, endings, PassedFrom};
+ghost use Rattle.protocol.specs.Octets.{lineEnd};
+ghost use Rattle.lines.specs.Skips.{entryOctet, pairs, quiet, agentFront, glanced, nextAgent, PassedFrom};
 use protocol::FIELDS;
 use protocol::LineNumber;
 use protocol::Place;
@@ -18,42 +21,132 @@ fn may_begin(x: u8, rules: bool) -> bool
         | (rules & ((c == FIELDS[1][0]) | (c == FIELDS[2][0])))
 }
 
-// No such line begins behind any of the first 64 octets.
-fn is_quiet(b: &[u8], rules: bool) -> bool
-    requires { ⌜ length (now b) ≡ 65 ⌝ }
-    ensures { λ r. ⌜ r ≡ quiet rules (now (b .entry)) ⌝ }
+// A line ends with the octet, or is ended by it and the one behind it.
+fn ends_line(x: u8) -> bool
+    ensures { λ r. ⌜ r ≡ lineEnd x ⌝ }
 {
-    let mut found = 0u8;
+    (x == b'\r') | (x == b'\n')
+}
+
+// No agent line begins behind any of the octets; `behind` holds the octet behind each of them. All are looked at, so that the compiler can look
+// at many at a time, and in two texts, so that it needn't put together one from the other.
+fn is_quiet(b: &[u8], behind: &[u8]) -> bool
+    requires { ⌜ length (now behind) ≡ length (now b) ⌝ }
+    ensures { λ r. ⌜ r ≡ quiet false (zip (now (b .entry)) (now (behind .entry))) ⌝ }
+{
+    let mut found = false;
     let mut i = 0;
+    while i < b.len() {
+        found = found | (ends_line(b[i]) & may_begin(behind[i], false));
+        i += 1;
+    }
+    !found
+}
+
+// The octets of 64 in front of the first behind which an agent line may begin; there is one.
+fn front_agent(b: &[u8], behind: &[u8]) -> usize
+    requires { ⌜ (length (now b) ≡ 64) × (length (now behind) ≡ 64) × (quiet false (zip (now b) (now behind)) ≡ false) ⌝ }
+    ensures { λ r. ⌜ r ≡ agentFront (zip (now (b .entry)) (now (behind .entry))) ⌝ }
+{
+    let mut first = 255u8;
+    let mut i = 0u8;
     while i < 64 {
-        if ((b[i] == b'\r') | (b[i] == b'\n')) & may_begin(b[i + 1], rules) {
-            found += 1;
+        let at = i as usize;
+        let here = if ends_line(b[at]) & may_begin(behind[at], false) {
+            i
+        } else {
+            255
+        };
+        if here < first {
+            first = here;
         }
         i += 1;
     }
-    found == 0
+    first as usize
 }
 
-// The line endings that the first 64 octets close.
-fn endings(b: &[u8]) -> usize
-    requires { ⌜ length (now b) ≡ 65 ⌝ }
-    ensures { λ r. ⌜ r ≡ endings (now (b .entry)) ⌝ }
+// The same for the few octets at a text's end, one by one.
+fn last_agent(s: &[u8]) -> usize
+    requires { ⌜ 1 ≤ length (now s) ⌝ }
+    ensures { λ r. ⌜ r ≡ agentFront (pairs (now (s .entry))) + 1 ⌝ }
 {
+    let mut i = 0;
+    while 1 < s.len() - i {
+        if ends_line(s[i]) {
+            if may_begin(s[i + 1], false) {
+                return i + 1;
+            }
+        }
+        i += 1;
+    }
+    s.len()
+}
+
+// Where the next line begins that may be an agent line; the text's end, if there is none.
+pub fn next_agent(s: &[u8], from: Place) -> Place
+    requires { ⌜ from .offset < length (now s) ⌝ }
+    ensures { λ r. ⌜ r ≡ nextAgent (now (s .entry)) from ⌝ }
+{
+    let mut i = from.offset;
+    while 65 <= s.len() - i {
+        let b = &s[i..i + 64];
+        let behind = &s[i + 1..i + 65];
+        if !is_quiet(b, behind) {
+            let found = i + front_agent(b, behind) + 1;
+            return Place { offset: found };
+        }
+        i += 64;
+    }
+    // most texts end without an agent line
+    let last = s.len() - 1;
+    if is_quiet(&s[i..last], &s[i + 1..]) {
+        return Place { offset: s.len() };
+    }
+    let found = i + last_agent(&s[i..]);
+    Place { offset: found }
+}
+
+// What 64 octets hold: whether an agent or rule line begins behind one of them, and the line endings that they close.
+struct Seen {
+    quiet: bool,
+    lines: usize,
+}
+
+// Both are looked for at once, as in `is_quiet`.
+fn glance(b: &[u8], behind: &[u8]) -> Seen
+    requires { ⌜ (length (now b) ≡ 64) × (length (now behind) ≡ 64) ⌝ }
+    ensures { λ r. ⌜ r ≡ glanced (zip (now (b .entry)) (now (behind .entry))) ⌝ }
+{
+    let mut found = 0u8;
     let mut n = 0u8;
     let mut i = 0;
     while i < 64 {
-        if (b[i] == b'\n') | ((b[i] == b'\r') & (b[i + 1] != b'\n')) {
-            n += 1;
-        }
+        let x = b[i];
+        let y = behind[i];
+        let here = if ends_line(x) & may_begin(y, true) {
+            1u8
+        } else {
+            0u8
+        };
+        found = found | here;
+        let ends = if (x == b'\n') | ((x == b'\r') & (y != b'\n')) {
+            1u8
+        } else {
+            0u8
+        };
+        n += ends;
         i += 1;
     }
-    n as usize
+    Seen {
+        quiet: found == 0,
+        lines: n as usize,
+    }
 }
 
-// Passes over whole blocks of 64 octets, as long as no such line begins behind one of these, and counts the lines that they close.
-pub fn pass(s: &[u8], at: Position, rules: bool) -> Position
+// Passes over whole blocks of 64 octets, as long as no agent or rule line begins behind one of these, and counts the lines that they close.
+pub fn pass(s: &[u8], at: Position) -> Position
     requires { ⌜ (at .place .offset ≤ length (now s)) × (at .number .number ≤ at .place .offset + 1) ⌝ }
-    ensures { λ r. ⌜ PassedFrom rules (now (s .entry)) at r ⌝ }
+    ensures { λ r. ⌜ PassedFrom (now (s .entry)) at r ⌝ }
 {
     if s.len() < 65 {
         return at;
@@ -62,12 +155,11 @@ pub fn pass(s: &[u8], at: Position, rules: bool) -> Position
     let mut i = at.place.offset;
     let mut number = at.number.number;
     while i <= last {
-        let end = i + 65;
-        let b = &s[i..end];
-        if !is_quiet(b, rules) {
+        let g = glance(&s[i..i + 64], &s[i + 1..i + 65]);
+        if !g.quiet {
             break;
         }
-        number += endings(b);
+        number += g.lines;
         i += 64;
     }
     Position {

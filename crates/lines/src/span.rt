@@ -3,8 +3,9 @@
 ghost use mathlib.Core.Path.{_≡_};
 ghost use mathlib.Core.Bool.{true, _&&_};
 ghost use Prim.Native.Nat.{_<_};
-ghost use lib.ListN.{length, getD};
+ghost use lib.ListN.{length, drop, getD};
 ghost use Rattle.protocol.specs.Octets.{is, lineEnd};
+ghost use Rattle.protocol.specs.Text.{begins};
 ghost use Rattle.protocol.specs.Lines.{hasLeadingMark, skipped, placeAt, endingLength};
 ghost use Rattle.protocol.specs.Classes.{classTable};
 ghost use Rattle.lines.specs.Spans.{nextAt};
@@ -62,11 +63,26 @@ fn ending_length(s: &[u8]) -> usize
     1
 }
 
-// Where the line behind the one at `from` begins: the end of the file, if none does.
+// LF stands there.
+fn is_lf_at(file: &[u8], at: Place) -> bool
+    ensures { λ r. ⌜ r ≡ begins "\n" (drop (at .offset) (now (file .entry))) ⌝ }
+{
+    let i = at.offset;
+    if file.len() <= i {
+        return false;
+    }
+    file[i] == b'\n'
+}
+
+// Where the line behind the one at `from` begins: the end of the file, if none does. Mostly what is examined of a line goes up to an LF.
 pub fn next_place(classes: &ClassTable, file: &[u8], from: Place) -> Place
     requires { ⌜ now classes ≡ classTable ⌝ }
     ensures { λ r. ⌜ r ≡ nextAt (now (file .entry)) from ⌝ }
 {
+    if is_lf_at(file, from) {
+        let behind = from.offset + 1;
+        return Place { offset: behind };
+    }
     let end = text::line_end(classes, file, from);
     let stop = end.offset;
     if file.len() <= stop {

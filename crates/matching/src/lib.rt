@@ -47,6 +47,16 @@ fn walk_short(pattern: &[u8], path: &[u8]) -> Walked
     walk_in(pattern, path, &mut buffer, &mut scratch)
 }
 
+// Room for a normalised path of at most 1,536 octets.
+fn walk_middle(pattern: &[u8], path: &[u8]) -> Walked
+    requires { ⌜ (length (normalPath (now path)) ≤ 1536) × CountFits (now pattern) (normalPath (now path)) ⌝ }
+    ensures { λ r. ⌜ r ≡ walk (shapeOf (now (pattern .entry))) (normalPath (now (path .entry))) ⌝ }
+{
+    let mut buffer = [0u8; 1536];
+    let mut scratch = [0u8; 1536];
+    walk_in(pattern, path, &mut buffer, &mut scratch)
+}
+
 // Room for the longest normalised path.
 fn walk_long(pattern: &[u8], path: &[u8]) -> Walked
     requires { ⌜ (length (normalPath (now path)) ≤ 6142) × CountFits (now pattern) (normalPath (now path)) ⌝ }
@@ -57,13 +67,32 @@ fn walk_long(pattern: &[u8], path: &[u8]) -> Walked
     walk_in(pattern, path, &mut buffer, &mut scratch)
 }
 
+// Walks the pattern over a path that is its own normalised path: nothing is copied, and there is room for the runs of the pattern.
+fn walk_unchanged(pattern: &[u8], path: &[u8]) -> Walked
+    requires { ⌜ (length (now path) ≤ 2048) × CountFits (now pattern) (now path) ⌝ }
+    ensures { λ r. ⌜ r ≡ walk (shapeOf (now (pattern .entry))) (now (path .entry)) ⌝ }
+{
+    if path.len() <= 128 {
+        let mut scratch = [0u8; 128];
+        return walk::walk_pattern(pattern, path, &mut scratch);
+    }
+    let mut scratch = [0u8; 2048];
+    walk::walk_pattern(pattern, path, &mut scratch)
+}
+
 // The walk of a pattern and a path of which neither is refused.
 fn walk_path(pattern: &[u8], path: &[u8]) -> Walked
     requires { ⌜ matchRefusal (now pattern) (now path) ≡ 0 ⌝ }
     ensures { λ r. ⌜ r ≡ walk (shapeOf (now (pattern .entry))) (normalPath (now (path .entry))) ⌝ }
 {
+    if !normal::may_change(path) {
+        return walk_unchanged(pattern, path);
+    }
     if path.len() <= 128 {
         return walk_short(pattern, path);
+    }
+    if path.len() <= 512 {
+        return walk_middle(pattern, path);
     }
     walk_long(pattern, path)
 }

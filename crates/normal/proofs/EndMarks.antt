@@ -19,7 +19,7 @@ use Rattle.protocol.specs.Text.{ends}
 use Rattle.protocol.specs.Normal.{normal}
 use Rattle.protocol.specs.Pattern.{rawText, shapeOf, weight}
 use Rattle.protocol.proofs.Sizes.{end-mark-length}
-use Rattle.text.specs.Parts.{among}
+use Rattle.words.specs.Words.{among}
 use Rattle.text.proofs.Seeks.{only-one}
 
 -- the last octet, by its index

@@ -4,8 +4,8 @@ use mathlib.Core.Path.{_≡_, refl, sym, ap, _∙_}
 use mathlib.Core.Bool.{Bool, true, false, not}
 use mathlib.Core.List.{List, [], _∷_, _++_}
 use native.Mathlib.Omega.{arith}
-use lib.ListN.{length, drop, getD, length-append, length-drop, drop-of-length-le}
-use lib.Seq.{drop-drop, drop-nil, sets, length-sets}
+use lib.ListN.{length, take, drop, getD, length-append, length-drop, drop-of-length-le}
+use lib.Seq.{drop-drop, drop-nil, getD-take, length-take-le, sets, length-sets}
 use borrow.Author.Tests.{not-true, not-false}
 use Rattle.lists.specs.Lists.{upTo}
 use Rattle.lists.proofs.Bools.{split}
@@ -106,6 +106,10 @@ module _ {was whole : List ℕ} {k : ℕ} {out left : List ℕ} {n : ℕ} (h : S
 
   pub all-stored : left ≡ [] → (n ≡ k + length whole) × (out ≡ sets was k whole)
   all-stored e = (omega (arith, h .end, ap length e), rw e at (h .same))
+
+-- the next octet of a front that is copied, and those behind it
+pub copy-on : (s : List ℕ) (n i : ℕ) → i < n → n ≤ length s → drop i (take n s) ≡ getD s i 0 ∷ drop (i + 1) (take n s)
+copy-on s n i h k = drop-one (take n s) i 0 (omega (arith, length-take-le n s k)) ∙ rw (getD-take n s i 0 h)
 
 -- `copy` holds the octets in front of the first that is encoded, n of them
 module _ (stars : Bool) (s out : List ℕ) (n : ℕ) (copy : List ℕ) (e : (n ≡ length (upTo (isEncoded stars) s)) × (copy ≡ sets out 0 (upTo (isEncoded stars) s))) where

@@ -1,2 +1,3 @@
+pub mod Literal
 pub mod Runs
 pub mod Sizes

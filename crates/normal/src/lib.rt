@@ -1,16 +1,18 @@
-// Normalising a text: written to lent memory, one run of a pattern among them, or measured; and a pattern's weight.
+// Normalising a text: written to lent memory, one run of a pattern among them, or measured, or found to stay as it is; and a pattern's weight.
 
 ghost use mathlib.Core.Path.{_≡_};
+ghost use mathlib.Core.Bool.{true, false};
 ghost use Prim.Native.Nat.{_+_, _≤_, _<_, _^_};
-ghost use lib.ListN.{length, drop};
+ghost use lib.ListN.{length, take, drop};
 ghost use lib.Seq.{sets};
 ghost use lib.Dec.{leb};
-ghost use Rattle.lists.specs.Lists.{upTo};
+ghost use Rattle.lists.specs.Lists.{all, any, upTo};
 ghost use Rattle.protocol.specs.Normal.{normal, isEncoded};
 ghost use Rattle.protocol.specs.Pattern.{rawText, shapeOf, weight};
 ghost use Rattle.protocol.specs.Answers.{atFront};
 ghost use Rattle.normal.specs.Sizes.{sizeWithin};
 ghost use Rattle.normal.specs.Runs.{runOf, runScratch};
+ghost use Rattle.normal.specs.Literal.{literal, notLiteral};
 use protocol::Place;
 
 // How many octets there are, where they fit a room.
@@ -25,12 +27,58 @@ pub enum Written {
     NoRoom,
 }
 
+// The octets in front of the first that isn't literal, many looked at at a time.
+fn literal_front(s: &[u8]) -> usize
+    ensures { λ r. ⌜ r ≡ length (upTo notLiteral (now (s .entry))) ⌝ }
+{
+    let end = text::seek(s, Place { offset: 0 }, 0x2B, 0x7E, false);
+    end.offset
+}
+
+// Only octets that normalising leaves as they are, and that are no star and no end mark in a pattern.
+pub fn is_literal(s: &[u8]) -> bool
+    ensures { λ r. ⌜ r ≡ all literal (now (s .entry)) ⌝ }
+{
+    literal_front(s) == s.len()
+}
+
+// Normalising may change a path: some octet doesn't stay as it is. Those behind the literal front are looked at one by one.
+pub fn may_change(path: &[u8]) -> bool
+    ensures { λ r. ⌜ r ≡ any (isEncoded false) (now (path .entry)) ⌝ }
+{
+    let mut i = literal_front(path);
+    while i < path.len() {
+        if !escapes::is_kept(false, path[i]) {
+            return true;
+        }
+        i += 1;
+    }
+    false
+}
+
+// Copies the literal octets at the front of a long text, and tells how many: none of a short one, which is copied as soon.
+fn write_literal(s: &[u8], out: &mut [u8]) -> usize
+    requires { ⌜ length (upTo notLiteral (now s)) ≤ length (now out) ⌝ }
+    ensures { λ r. ⌜ (r ≤ length (now (s .entry))) × (all literal (take r (now (s .entry))) ≡ true) × (now (out .exit) ≡ sets (now (out .entry)) 0 (take r (now (s .entry)))) ⌝ }
+{
+    if s.len() < 16 {
+        return 0;
+    }
+    let n = literal_front(s);
+    let mut i = 0;
+    while i < n {
+        out[i] = s[i];
+        i += 1;
+    }
+    n
+}
+
 // Copies the octets in front of the first that doesn't stay as it is, and tells how many.
 fn write_kept(stars: bool, s: &[u8], out: &mut [u8]) -> usize
     requires { ⌜ length (upTo (isEncoded stars) (now s)) ≤ length (now out) ⌝ }
     ensures { λ r. ⌜ (r ≡ length (upTo (isEncoded stars) (now (s .entry)))) × (now (out .exit) ≡ sets (now (out .entry)) 0 (upTo (isEncoded stars) (now (s .entry)))) ⌝ }
 {
-    let mut i = 0;
+    let mut i = write_literal(s, out);
     while i < s.len() {
         let x = s[i];
         if !escapes::is_kept(stars, x) {

@@ -1,12 +1,12 @@
 -- A line that is no agent line, or neither an agent nor a rule line, told by its first octet or by its head. Assumes nothing.
-use Prim.Native.Nat.{ℕ}
+use Prim.Native.Nat.{ℕ, _≤_}
 use mathlib.Core.Path.{_≡_, refl, sym, ap, _∙_}
 use mathlib.Core.Bool.{Bool, true, false, _||_, false≢true}
 use mathlib.Core.List.{List, [], _∷_}
 use mathlib.Core.Option.{none, some}
 use types.Run.{OneOf, miss}
 use denote.Enum.Declared.{tagOf}
-use lib.ListN.{drop}
+use lib.ListN.{length, drop}
 use Rattle.lists.specs.Choice.{if_then_else_}
 use Rattle.lists.specs.Lists.{from}
 use Rattle.lists.proofs.Bools.{split}
@@ -16,14 +16,15 @@ use Rattle.protocol.specs.declared.Kind.{Kind}
 use Rattle.protocol.specs.Octets.{is, blank, lowerCase}
 use Rattle.protocol.specs.Text.{begins, solid}
 use Rattle.protocol.specs.Lines.{lineText}
-use Rattle.protocol.specs.Kinds.{kindOf}
+use Rattle.protocol.specs.Kinds.{agentAt, kindOf}
 use Rattle.protocol.specs.Entries.{agent, roleOf}
 use Rattle.lines.specs.Skips.{entryOctet}
 use Rattle.fields.specs.declared.Field.{Field}
 use Rattle.fields.specs.declared.Head.{Head}
-use Rattle.fields.specs.Fields.{fieldOf, headOf}
+use Rattle.fields.specs.Near.{agentOf, agentOnly}
+use Rattle.fields.specs.Fields.{fieldOf, headOf, valueAt}
 use Rattle.fields.specs.Names.{nameLength, beginsName, fieldAt}
-use Rattle.fields.proofs.Heads.{head-field, no-agent, field-no, field-known}
+use Rattle.fields.proofs.Heads.{head-field, head-inside, kind-head, no-agent, field-no, field-known}
 use Rattle.fields.proofs.Field as F
 use Rattle.passes.specs.Entries.{roleNames}
 
@@ -115,24 +116,30 @@ idle-role (Kind.Rule Side.Allow p) h = absurd (false≢true (ap isOther h))
 idle-role (Kind.Rule Side.Disallow p) h = absurd (false≢true (ap isOther h))
 
 -- the head of the line at the beginning of a text
-module _ (rest : List ℕ) (head : Head) (e : head ≡ headOf rest) where
-  pub head-no-agent : OneOf (1 ∷ 2 ∷ 3 ∷ []) (tagOf F.the-type (head .field)) → isAgent (fieldOf (kindOf (lineText rest))) ≡ false
-  head-no-agent h = go (fieldOf (kindOf (lineText rest))) (rw (head-field rest head e) at h)
-    where
-      go : (f : Field) → OneOf (1 ∷ 2 ∷ 3 ∷ []) (tagOf F.the-type f) → isAgent f ≡ false
-      go Field.Agent h = absurd (miss (1 ∷ 2 ∷ 3 ∷ []) 0 tt h)
-      go Field.Allow h = refl
-      go Field.Disallow h = refl
-      go Field.Other h = refl
+-- a head that is told only of an agent line
+agent-kept : (f : Field) (h : Head) → h .field ≡ f → agentOf f h .field ≡ Field.Agent → agentOf f h ≡ h
+agent-kept Field.Agent h e k = refl
+agent-kept Field.Allow h e k = absurd (false≢true (ap isAgent k))
+agent-kept Field.Disallow h e k = absurd (false≢true (ap isAgent k))
+agent-kept Field.Other h e k = absurd (false≢true (ap isAgent k))
 
-  pub head-agent : head .field ≡ Field.Agent → roleOf (kindOf (lineText rest)) ≡ some agent
-  unfolding roleOf
-  head-agent h = go (kindOf (lineText rest)) (sym (head-field rest head e) ∙ h)
-    where
-      go : (k : Kind) → fieldOf k ≡ Field.Agent → roleOf k ≡ some agent
-      go Kind.Blank h = absurd (false≢true (sym (ap isOther h)))
-      go Kind.Noise h = absurd (false≢true (sym (ap isOther h)))
-      go Kind.Other h = absurd (false≢true (sym (ap isOther h)))
-      go (Kind.Agent a) h = refl
-      go (Kind.Rule Side.Allow p) h = absurd (false≢true (ap isAgent h))
-      go (Kind.Rule Side.Disallow p) h = absurd (false≢true (ap isAgent h))
+agent-lost : (f : Field) (h : Head) → h .field ≡ f → OneOf (1 ∷ 2 ∷ 3 ∷ []) (tagOf F.the-type (agentOf f h .field)) → isAgent f ≡ false
+agent-lost Field.Agent h e o = absurd (miss (1 ∷ 2 ∷ 3 ∷ []) 0 tt (rw e at o))
+agent-lost Field.Allow h e o = refl
+agent-lost Field.Disallow h e o = refl
+agent-lost Field.Other h e o = refl
+
+module _ (rest : List ℕ) (head : Head) (e : head ≡ agentOnly (headOf rest)) where
+  whole : head .field ≡ Field.Agent → head ≡ headOf rest
+  whole h = e ∙ agent-kept (headOf rest .field) (headOf rest) refl (ap (λ (g : Head). g .field) (sym e) ∙ h)
+
+  pub head-no-agent : OneOf (1 ∷ 2 ∷ 3 ∷ []) (tagOf F.the-type (head .field)) → isAgent (fieldOf (kindOf (lineText rest))) ≡ false
+  head-no-agent h = ap isAgent (sym (head-field rest (headOf rest) refl)) ∙ agent-lost (headOf rest .field) (headOf rest) refl (rw e at h)
+
+  -- the value of an agent line begins inside of it, and tells its kind
+  module _ (h : head .field ≡ Field.Agent) where
+    pub agent-inside : head .value .offset ≤ length rest
+    agent-inside = head-inside rest head (whole h)
+
+    pub agent-kind : Kind.Agent (agentAt (head .value) (valueAt (head .value) rest)) ≡ kindOf (lineText rest)
+    agent-kind = kind-head rest head (whole h) Field.Agent h

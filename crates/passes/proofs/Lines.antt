@@ -1,7 +1,7 @@
 -- A line of a file, where it stands, and the lines behind it. Assumes nothing.
 use Prim.Native.Nat.{ℕ, _+_, _-_, _≤_}
 use mathlib.Core.Path.{_≡_, refl, sym, ap, _∙_}
-use mathlib.Core.Bool.{Bool, true, false, false≢true, and-false}
+use mathlib.Core.Bool.{Bool, true, false, true≢false, false≢true, and-false}
 use mathlib.Core.List.{List, [], _∷_}
 use native.Mathlib.Omega.{arith}
 use lib.Dec.{eqb}
@@ -30,6 +30,7 @@ use Rattle.protocol.proofs.Inside.{value-in-file}
 use Rattle.protocol.proofs.Unread.{unreadableAs, kind-unreadable}
 use Rattle.lines.specs.Spans.{textAt}
 use Rattle.lines.proofs.Forward.{text-inside}
+use Rattle.kinds.specs.Entries.{entryKind}
 use Rattle.protocol.proofs.Pattern as P
 use Rattle.considering.specs.declared.Considered.{Considered}
 use Rattle.considering.specs.Considering.{considered, consideredAll, Room as Fits}
@@ -40,6 +41,45 @@ use Rattle.passes.specs.Entries.{lineValue, valueEnd, entryAt, ruleHeard
 pub octets-most : (l : List ℕ) (p : Place) (n : ℕ) → length (octetsAt l p n) ≤ n
 unfolding octetsAt
 octets-most l p n = simp (length-take) (omega arith)
+
+-- For a pass over a file, the kind of a line that is no agent or rule line is told as other.
+-- the value of such a line is empty
+pub entry-end : (p : Place) (k : Kind) → valueEnd p (entryKind k) ≡ valueEnd p k
+entry-end p Kind.Blank = refl
+entry-end p Kind.Noise = refl
+entry-end p Kind.Other = refl
+entry-end p (Kind.Agent a) = refl
+entry-end p (Kind.Rule side q) = refl
+
+pub entry-role : (k : Kind) → roleOf (entryKind k) ≡ roleOf k
+unfolding roleOf
+entry-role Kind.Blank = refl
+entry-role Kind.Noise = refl
+entry-role Kind.Other = refl
+entry-role (Kind.Agent a) = refl
+entry-role (Kind.Rule side q) = refl
+
+abbrev isOther : Kind → Bool
+isOther Kind.Blank = false
+isOther Kind.Noise = false
+isOther Kind.Other = true
+isOther (Kind.Agent a) = false
+isOther (Kind.Rule side q) = false
+
+-- that of an agent or rule line is as it is
+pub entry-agent : (k : Kind) (a : Agent) → entryKind k ≡ Kind.Agent a → k ≡ Kind.Agent a
+entry-agent Kind.Blank a e = absurd (true≢false (ap isOther e))
+entry-agent Kind.Noise a e = absurd (true≢false (ap isOther e))
+entry-agent Kind.Other a e = absurd (true≢false (ap isOther e))
+entry-agent (Kind.Agent b) a e = e
+entry-agent (Kind.Rule side q) a e = e
+
+pub entry-rule : (k : Kind) (side : Side) (q : Pattern) → entryKind k ≡ Kind.Rule side q → k ≡ Kind.Rule side q
+entry-rule Kind.Blank side q e = absurd (true≢false (ap isOther e))
+entry-rule Kind.Noise side q e = absurd (true≢false (ap isOther e))
+entry-rule Kind.Other side q e = absurd (true≢false (ap isOther e))
+entry-rule (Kind.Agent a) side q e = e
+entry-rule (Kind.Rule s r) side q e = e
 
 module _ (file : List ℕ) (p : Place) (h : p .offset ≤ length file) where
   abbrev text : List ℕ
@@ -56,9 +96,12 @@ module _ (file : List ℕ) (p : Place) (h : p .offset ≤ length file) where
   unread-known : unreadableAs (roleOf (kindOf text)) (lineValue file p (kindOf text)) ≡ unreadableKind (kindOf text)
   unread-known = rw value-known (kind-unreadable text (kindOf text) (kind-says text))
 
-  module _ (k : Kind) (e : k ≡ kindOf text) where
+  value-says : (k : Kind) → k ≡ kindOf text → Says text k
+  value-says k e = rw e (kind-says text)
+
+  module _ (k : Kind) (e : k ≡ entryKind (kindOf text)) where
     pub value-end-inside : valueEnd p k .offset ≤ p .offset + length text
-    value-end-inside = rw e (omega (arith, value-inside text))
+    value-end-inside = omega (arith, ap (λ (q : Place). q .offset) (ap (valueEnd p) e ∙ entry-end p (kindOf text)), value-inside text)
 
     pub value-fits : valueEnd p k .offset ≤ length file
     value-fits = omega (arith, value-end-inside, text-inside file p h)
@@ -70,17 +113,14 @@ module _ (file : List ℕ) (p : Place) (h : p .offset ≤ length file) where
         let start : end - n ≡ p .offset + placeOf k .offset = omega (arith, s, t) in
         rw (size, start) (split (eqb (lengthOf k) 0) (λ z. rw (eqb-true (lengthOf k) 0 z)) (λ z. rw z))
 
-    value-says : Says text k
-    value-says = rw e (kind-says text)
-
     pub agent-unread : (a : Agent) → k ≡ Kind.Agent a → unreadable agent (lineValue file p (Kind.Agent a)) ≡ unreadableKind (Kind.Agent a)
     unfolding roleOf
-    agent-unread a s = let q : kindOf text ≡ Kind.Agent a = sym e ∙ s in rw q at unread-known
+    agent-unread a s = rw (entry-agent (kindOf text) a (sym e ∙ s)) at unread-known
 
     pub rule-unread : (side : Side) (pattern : Pattern) → k ≡ Kind.Rule side pattern
         → unreadable (rule side) (lineValue file p (Kind.Rule side pattern)) ≡ unreadableKind (Kind.Rule side pattern)
     unfolding roleOf
-    rule-unread side pattern s = let q : kindOf text ≡ Kind.Rule side pattern = sym e ∙ s in rw q at unread-known
+    rule-unread side pattern s = rw (entry-rule (kindOf text) side pattern (sym e ∙ s)) at unread-known
 
 -- whether a pattern is readable, as its line's kind says
 abbrev isReadable : Pattern → Bool

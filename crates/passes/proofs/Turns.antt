@@ -27,9 +27,10 @@ use Rattle.protocol.proofs.FrontToBack.{linesAt, lines-next, lines-end, lines-a
 use Rattle.protocol.proofs.Kind as K
 use Rattle.protocol.proofs.Audience as A
 use Rattle.lines.specs.Spans.{textAt, nextAt}
-use Rattle.lines.specs.Skips.{entryOctet, PassedFrom}
+use Rattle.lines.specs.Skips.{nextAgent, PassedOver}
+use Rattle.kinds.specs.Entries.{entryKind}
 use Rattle.lines.proofs.Forward.{next-further, next-mid, text-inside, text-next}
-use Rattle.lines.proofs.Passing.{past-on, past-inside, past-further, past-few}
+use Rattle.lines.proofs.Passing.{past-on, past-inside, past-further, past-few, Unasked, agents-on}
 use Rattle.fields.specs.Fields.{fieldOf}
 use Rattle.considering.specs.declared.Considered.{Considered}
 use Rattle.considering.specs.Considering.{noneConsidered, consideredAll}
@@ -42,7 +43,7 @@ use Rattle.passes.specs.Steps.{linesPast, PassedLine}
 use Rattle.passes.proofs.Gathering.{gathered-all}
 use Rattle.passes.proofs.Groups.{some-line-names}
 use Rattle.passes.proofs.Heads.{isAgent, no-agent-named, first-no-agent, first-idle, idle-role}
-use Rattle.passes.proofs.Lines.{octets-most, value-end-inside, agent-unread, rule-unread}
+use Rattle.passes.proofs.Lines.{entry-end, entry-rule, octets-most, value-end-inside, agent-unread, rule-unread}
 
 -- the lines from a position on
 abbrev linesOn : List ℕ → Position → List Line
@@ -54,20 +55,41 @@ idle-entries : (above : ℕ) (ruled : Bool) (l : Line) (ls : List Line) → role
 unfolding entriesFrom entryOf groupAt ruledAfter
 idle-entries above ruled l ls e = rw e
 
+-- a kind that is told for a pass gives the same entry
+entry-of : (above : ℕ) (ruled : Bool) (l : Line) (k : Kind)
+    → entryOf (groupAt above ruled (roleOf (entryKind k))) l (entryKind k) (roleOf (entryKind k)) ≡ entryOf (groupAt above ruled (roleOf k)) l k (roleOf k)
+unfolding entryOf roleOf
+entry-of above ruled l Kind.Blank = refl
+entry-of above ruled l Kind.Noise = refl
+entry-of above ruled l Kind.Other = refl
+entry-of above ruled l (Kind.Agent a) = refl
+entry-of above ruled l (Kind.Rule side q) = refl
+
+-- a line that is no agent or rule line has no value
+idle-end : (k : Kind) → OneOf (0 ∷ 1 ∷ 2 ∷ []) (tagOf K.the-type k) → placeOf k .offset + lengthOf k ≡ 0
+idle-end Kind.Blank o = refl
+idle-end Kind.Noise o = refl
+idle-end Kind.Other o = refl
+idle-end (Kind.Agent a) o = absurd (miss (0 ∷ 1 ∷ 2 ∷ []) 3 tt o)
+idle-end (Kind.Rule side q) o = absurd (miss (0 ∷ 1 ∷ 2 ∷ []) 4 tt o)
+
 -- past the line at p
-module _ (file : List ℕ) (p : Position) (h : p .place .offset < length file) (few : p .number .number ≤ p .place .offset + 1) (k : Kind) (e : k ≡ kindOf (textAt file (p .place))) where
+module _ (file : List ℕ) (p : Position) (h : p .place .offset < length file) (few : p .number .number ≤ p .place .offset + 1) (k : Kind) (e : k ≡ entryKind (kindOf (textAt file (p .place)))) where
+  -- the end of its value
+  value-told : valueEnd (p .place) (kindOf (textAt file (p .place))) .offset ≡ valueEnd (p .place) k .offset
+  value-told = ap (λ (q : Place). q .offset) (sym (entry-end (p .place) (kindOf (textAt file (p .place)))) ∙ ap (valueEnd (p .place)) (sym e))
+
   -- many lines at a time, where it is no agent or rule line
-  pub passed-blocks : (r : Position) → PassedFrom true file p r → placeOf k .offset ≡ 0 → lengthOf k ≡ 0 → PassedLine file p r
-  passed-blocks r past z w =
-      let over = past .over in
+  pub passed-blocks : (r : Position) → PassedOver file p r → OneOf (0 ∷ 1 ∷ 2 ∷ []) (tagOf K.the-type k) → PassedLine file p r
+  passed-blocks r over o =
       record {
-        inside = omega (arith, past-inside true file p r over h);
-        further = past-further true file p r over h;
-        value = rw (← e) (omega (arith, past-further true file p r over h, z, w));
-        counted = past-few true file p r over h few;
+        inside = omega (arith, past-inside file p r over h);
+        further = past-further file p r over h;
+        value = omega (arith, value-told, past-further file p r over h, idle-end k o);
+        counted = past-few file p r over h few;
         entries =
             λ above ruled.
-            sym (past-on (entriesFrom above ruled) true
+            sym (past-on (entriesFrom above ruled)
             (λ n q c l ls g. idle-entries above ruled (line n q (lineText (c ∷ l))) ls (idle-role (kindOf (lineText (c ∷ l))) (first-idle c l g)))
             file p r over);
       }
@@ -83,7 +105,7 @@ module _ (file : List ℕ) (p : Position) (h : p .place .offset < length file) (
       (record {
         inside = omega (arith, fits, text-inside file (p .place) (omega arith));
         further = omega (arith, same, on);
-        value = rw (← e) (omega (arith, same, fits, text-next file (p .place)));
+        value = omega (arith, value-told, same, fits, text-next file (p .place));
         counted = omega (arith, same, few, on);
         entries =
             λ above ruled.
@@ -148,11 +170,18 @@ module _ (file who path : List ℕ) (heard : Hearing) (c : Considered) (p : Posi
         )
 
     -- a line that is no rule line
-    left-other : (k : Kind) → k ≡ kind file p h → OneOf (0 ∷ 1 ∷ 2 ∷ 3 ∷ []) (tagOf K.the-type k)
+    left-other : (k : Kind) → k ≡ entryKind (kind file p h) → OneOf (0 ∷ 1 ∷ 2 ∷ 3 ∷ []) (tagOf K.the-type k)
         → Left file who path (heardOther file who (p .place) k heard) c (lineBehind file r) g
     unfolding gatheredFrom consideredAll ruleHeard entryOf roleOf
-    left-other k e o = left-by (heardOther file who (p .place) k heard) c (λ es above ruled. rw (← e) (go es above ruled k o))
+    left-other k e o =
+        left-by (heardOther file who (p .place) k heard) c
+        (λ es above ruled. go es above ruled k o ∙ ap (λ (l : List Entry). gatheredFrom file who path heard c (l ++ es)) (told above ruled))
       where
+        told : (above : ℕ) (ruled : Bool)
+            → entryOf (groupAt above ruled (roleOf k)) (here file p h) k (roleOf k)
+            ≡ entryOf (groupAt above ruled (roleOf (kind file p h))) (here file p h) (kind file p h) (roleOf (kind file p h))
+        told above ruled = rw e (entry-of above ruled (here file p h) (kind file p h))
+
         go : (es : List Entry) (above : ℕ) (ruled : Bool) (k : Kind) → OneOf (0 ∷ 1 ∷ 2 ∷ 3 ∷ []) (tagOf K.the-type k)
             → gatheredFrom file who path (heardOther file who (p .place) k heard) c es
             ≡ gatheredFrom file who path heard c (entryOf (groupAt above ruled (roleOf k)) (here file p h) k (roleOf k) ++ es)
@@ -190,7 +219,7 @@ other-unheard file who p (Kind.Agent a) h o = absurd (miss (0 ∷ 1 ∷ 2 ∷ 4 
 other-unheard file who p (Kind.Rule side q) h o = refl
 
 -- or an agent line
-pub agent-heard : (file who : List ℕ) (p : Place) → p .offset ≤ length file → (k : Kind) → k ≡ kindOf (textAt file p) → (a : Agent) → k ≡ Kind.Agent a
+pub agent-heard : (file who : List ℕ) (p : Place) → p .offset ≤ length file → (k : Kind) → k ≡ entryKind (kindOf (textAt file p)) → (a : Agent) → k ≡ Kind.Agent a
     → (v : List ℕ) → v ≡ lineValue file p (Kind.Agent a) → (b : Bool) → b ≡ unreadableKind (Kind.Agent a) → (h : Hearing)
     → afterAgent who v b h ≡ heardOther file who p k h
 agent-heard file who p i k e a s v t b u h = rw (s, t, u, ← agent-unread file p i k e a s)
@@ -222,7 +251,7 @@ pub record Reached (file who path scratch₀ scratch : List ℕ) (heard : Hearin
   pub compared : c .compared ≤ 18_426 * p .place .offset
   pub unread : heard .unread ≤ p .place .offset
 
-module _ (file who path scratch₀ scratch : List ℕ) (heard : Hearing) (c : Considered) (p : Position) (g : Gathered) (now : Reached file who path scratch₀ scratch heard c p g) (h : p .place .offset < length file) (r : Position) (past : PassedLine file p r) (q : Position) (e : q ≡ lineBehind file r) (k : Kind) (s : k ≡ kindOf (textAt file (p .place))) where
+module _ (file who path scratch₀ scratch : List ℕ) (heard : Hearing) (c : Considered) (p : Position) (g : Gathered) (now : Reached file who path scratch₀ scratch heard c p g) (h : p .place .offset < length file) (r : Position) (past : PassedLine file p r) (q : Position) (e : q ≡ lineBehind file r) (k : Kind) (s : k ≡ entryKind (kindOf (textAt file (p .place)))) where
   -- past a line that is no rule line
   pub reached-other : OneOf (0 ∷ 1 ∷ 2 ∷ 3 ∷ []) (tagOf K.the-type k) → (heard' : Hearing) → heard' ≡ heardOther file who (p .place) k heard
       → Reached file who path scratch₀ scratch heard' c q g
@@ -238,6 +267,9 @@ module _ (file who path scratch₀ scratch : List ℕ) (heard : Hearing) (c : Co
 
   -- past a rule line
   module _ (side : Side) (pattern : Pattern) (m : k ≡ Kind.Rule side pattern) where
+    is-rule : kindOf (textAt file (p .place)) ≡ Kind.Rule side pattern
+    is-rule = entry-rule (kindOf (textAt file (p .place))) side pattern (sym s ∙ m)
+
     rule-heard-as : (b : Bool) → b ≡ unreadableKind (Kind.Rule side pattern)
         → afterRule b heard ≡ heardAs who (rule side) (lineValue file (p .place) (Kind.Rule side pattern)) heard
     rule-heard-as b t = ap (λ (b : Bool). afterRule b heard) (t ∙ sym (rule-unread file (p .place) (omega arith) k s side pattern m))
@@ -246,7 +278,7 @@ module _ (file who path scratch₀ scratch : List ℕ) (heard : Hearing) (c : Co
         → consideredAll file path c (ruleHeard file (heard .applies) (rule side) (entryAt p (Kind.Rule side pattern) (rule side))) .compared
         ≤ 18_426 * nextAt file (r .place) .offset
     few-pairs short =
-        let ends : valueEnd (p .place) (Kind.Rule side pattern) .offset ≤ nextAt file (r .place) .offset = rw (← s, m) at (past .value) in
+        let ends : valueEnd (p .place) (Kind.Rule side pattern) .offset ≤ nextAt file (r .place) .offset = rw is-rule at (past .value) in
         omega (arith, ends, now .compared, rule-compared file path short c (heard .applies) side (entryAt p (Kind.Rule side pattern) (rule side)))
 
     pub reached-rule : length path ≤ 6_142 → (b : Bool) → b ≡ unreadableKind (Kind.Rule side pattern)
@@ -256,7 +288,7 @@ module _ (file who path scratch₀ scratch : List ℕ) (heard : Hearing) (c : Co
     reached-rule short b t heard' u c' v scratch' w =
         rw (e, v, u)
         (record {
-          left = rw (rule-heard-as b t) (left-rule file who path heard c p g (now .left) h r past side pattern (sym m ∙ s));
+          left = rw (rule-heard-as b t) (left-rule file who path heard c p g (now .left) h r past side pattern (sym is-rule));
           same = w ∙ now .same;
           counted = past .counted;
           compared = few-pairs short;
@@ -329,17 +361,18 @@ module _ (file crawler : List ℕ) (before : Audience) (p : Position) where
     audience-here e = rw (names-here file p h crawler, first-crawler (names crawler) (names everyone) e)
 
     -- or it doesn't name the crawler
-    pub audience-turn : (r : Position) → PassedFrom false file p r → (here : Audience) → here ≡ lineAudience file crawler (p .place)
-        → OneOf (1 ∷ 2 ∷ []) (tagOf A.the-type here) → (after : Audience) → after ≡ unlessNobody here before → (q : Position) → q ≡ lineBehind file r
-        → audienceLeft file crawler after q ≡ audienceLeft file crawler before p
+    pub audience-turn : (here : Audience) → here ≡ lineAudience file crawler (p .place)
+        → OneOf (1 ∷ 2 ∷ []) (tagOf A.the-type here) → (after : Audience) → after ≡ unlessNobody here before → (q : Place) → q ≡ nextAgent file (p .place)
+        → (n : LineNumber) × (audienceLeft file crawler after (record { number = n; place = q }) ≡ audienceLeft file crawler before p)
     unfolding any
-    audience-turn r past here e o after t q s =
+    audience-turn here e o after t q s =
         let a = any (lineNames file crawler) (linesPast file p) in
         let b = any (lineNames file everyone) (linesPast file p) in
         let on : ask (linesPast file p) ≡ unlessNobody (firstOf a (names everyone || b)) before = rw other (first-on before (names everyone) a b) in
         let all : unlessNobody (firstOf a (names everyone || b)) before ≡ audienceLeft file crawler before p
         = rw (names-here file p h crawler, names-here file p h everyone, other) in
-        rw (s, t, e) (sym (past-on ask false unnamed file p r (past .over)) ∙ on ∙ all)
+        let next = agents-on ask unnamed file (p .number) (p .place) h in
+        (next .0, rw (s, t, e) (sym (next .1) ∙ on ∙ all))
       where
         other : names crawler ≡ false
         other = first-other (names crawler) (names everyone) (rw e at o)
@@ -348,7 +381,7 @@ module _ (file crawler : List ℕ) (before : Audience) (p : Position) where
         ask ls =
             unlessNobody (firstOf (any (lineNames file crawler) ls) (any (lineNames file everyone) ls)) (unlessNobody (lineAudience file crawler (p .place)) before)
 
-        unnamed : (n : LineNumber) (q : Place) (c : ℕ) (l : List ℕ) (ls : List Line) → entryOctet false c ≡ false → ask (line n q (lineText (c ∷ l)) ∷ ls) ≡ ask ls
+        unnamed : Unasked false ask
         unnamed n q c l ls g =
             let k = kindOf (lineText (c ∷ l)) in
             let v = lineValue file q k in

@@ -3,10 +3,12 @@ use Prim.Native.Nat.{ℕ, _+_, _*_, _≤_, _<_}
 use mathlib.Core.Path.{_≡_}
 use mathlib.Core.Bool.{Bool}
 use mathlib.Core.List.{List}
+use lib.Dec.{ltb}
 use lib.ListN.{length, drop}
+use Rattle.lists.specs.Choice.{if_then_else_}
 use Rattle.protocol.specs.declared.Place.{Place}
 use Rattle.protocol.specs.declared.Position.{Position}
-use Rattle.protocol.specs.Lines.{Line, numberAfter, linesFrom}
+use Rattle.protocol.specs.Lines.{Line, numberAfter, placeAfter, linesFrom}
 use Rattle.protocol.specs.Kinds.{kindOf}
 use Rattle.protocol.specs.Entries.{entriesFrom}
 use Rattle.lines.specs.Spans.{textAt, nextAt}
@@ -33,3 +35,7 @@ pub record PassedLine (file : List ℕ) (p r : Position) : Type 0 where
   pub value : valueEnd (p .place) (kindOf (textAt file (p .place))) .offset ≤ nextAt file (r .place) .offset
   pub counted : numberAfter (r .number) 1 .number ≤ nextAt file (r .place) .offset + 1
   pub entries : (above : ℕ) (ruled : Bool) → entriesFrom above ruled (linesPast file r) ≡ entriesFrom above ruled (linesPast file p)
+
+-- the place from which on a block is looked at again, past an octet of a line at r: 64 octets on, where it is no further already
+abbrev pub nextLook : Place → Place → Place
+nextLook soonest r = if ltb (r .offset) (soonest .offset) then soonest else placeAfter r 64

@@ -10,6 +10,7 @@ ghost use Rattle.passes.specs.Entries.{lineAudience, unlessNobody};
 use fields::Field;
 use protocol::Audience;
 use protocol::ClassTable;
+use protocol::Kind;
 use protocol::Place;
 
 // Whom the line that begins at `at` names.
@@ -19,12 +20,12 @@ fn line_audience(classes: &ClassTable, file: &[u8], at: Place, name: &[u8]) -> A
 {
     let start = at.offset;
     let rest = &file[start..];
-    let head = fields::head_of(classes, rest);
+    let head = fields::near::agent_head(classes, rest);
     let field = head.field;
     let Field::Agent = field else {
         return Audience::Nobody;
     };
-    let kind = kinds::line::kind_at(classes, rest, head);
+    let kind = Kind::Agent(kinds::line::agent_of(classes, rest, head.value));
     hearing::addressed(classes, name, crate::line::value_of(file, at, kind))
 }
 
@@ -45,15 +46,14 @@ pub fn choose_audience(classes: &ClassTable, file: &[u8], name: &[u8]) -> Audien
     ensures { λ r. ⌜ r ≡ audience (now (file .entry)) (entries (now (file .entry))) (now (name .entry)) ⌝ }
 {
     let mut audience = Audience::Nobody;
-    let mut at = crate::line::first_line(file);
-    while at.place.offset < file.len() {
-        let here = line_audience(classes, file, at.place, name);
+    let mut at = lines::span::first_place(file);
+    while at.offset < file.len() {
+        let here = line_audience(classes, file, at, name);
         if let Audience::Crawler = here {
             return here;
         }
         audience = unless_nobody(here, audience);
-        let over = lines::skip::pass(file, at, false);
-        at = crate::line::next_line(over, lines::span::next_place(classes, file, over.place));
+        at = lines::skip::next_agent(file, at);
     }
     audience
 }

@@ -8,10 +8,12 @@ ghost use Rattle.protocol.specs.Kinds.{kindOf, unreadableKind};
 ghost use Rattle.protocol.specs.Entries.{rule};
 ghost use Rattle.protocol.specs.Classes.{classTable};
 ghost use Rattle.lines.specs.Spans.{textAt};
+ghost use Rattle.lines.specs.Skips.{PassedOver};
+ghost use Rattle.kinds.specs.Entries.{entryKind};
 ghost use Rattle.hearing.specs.Heard.{whom};
 ghost use Rattle.considering.specs.Considering.{consideredAll};
 ghost use Rattle.passes.specs.Entries.{heardOther, entryAt, ruleHeard, gathered};
-ghost use Rattle.passes.specs.Steps.{Room, PassedLine};
+ghost use Rattle.passes.specs.Steps.{Room, PassedLine, nextLook};
 use considering::Considered;
 use hearing::Hearing;
 use protocol::Agent;
@@ -59,7 +61,7 @@ fn hear_other(
     at: Place,
     kind: Kind,
 ) -> Hearing
-    requires { ⌜ (now classes ≡ classTable) × (at .offset ≤ length (now file)) × (kind ≡ kindOf (textAt (now file) at)) × (h .unread + 1 < 2 ^ 64) ⌝ }
+    requires { ⌜ (now classes ≡ classTable) × (at .offset ≤ length (now file)) × (kind ≡ entryKind (kindOf (textAt (now file) at))) × (h .unread + 1 < 2 ^ 64) ⌝ }
     ensures { λ r. ⌜ r ≡ heardOther (now (file .entry)) (whom audience (now (name .entry))) at kind h ⌝ }
 {
     let Kind::Agent(agent) = kind else {
@@ -102,16 +104,24 @@ fn consider_rule(
     considering::consider(c, rule, &file[start..end], path, scratch)
 }
 
+// Past whole blocks without an agent or rule line, unless it is too soon to look for them.
+fn pass_idle(file: &[u8], at: Position, soonest: Place) -> Position
+    requires { ⌜ (at .place .offset < length (now file)) × (at .number .number ≤ at .place .offset + 1) ⌝ }
+    ensures { λ r. ⌜ PassedOver (now (file .entry)) at r ⌝ }
+{
+    if at.place.offset < soonest.offset {
+        return at;
+    }
+    lines::skip::pass(file, at)
+}
+
 // An octet of the last line that is passed: of the line at `at`, or of one behind it, no agent or rule line being among those.
-fn pass_line(file: &[u8], at: Position, kind: Kind) -> Position
-    requires { ⌜ (at .place .offset < length (now file)) × (at .number .number ≤ at .place .offset + 1) × (kind ≡ kindOf (textAt (now file) (at .place))) ⌝ }
+fn pass_line(file: &[u8], at: Position, kind: Kind, soonest: Place) -> Position
+    requires { ⌜ (at .place .offset < length (now file)) × (at .number .number ≤ at .place .offset + 1) × (kind ≡ entryKind (kindOf (textAt (now file) (at .place)))) ⌝ }
     ensures { λ r. ⌜ PassedLine (now (file .entry)) at r ⌝ }
 {
     let number = at.number;
     match kind {
-        Kind::Blank => lines::skip::pass(file, at, true),
-        Kind::Noise => lines::skip::pass(file, at, true),
-        Kind::Other => lines::skip::pass(file, at, true),
         Kind::Agent(_) => Position {
             number,
             place: crate::line::value_end(file, at.place, kind),
@@ -120,7 +130,20 @@ fn pass_line(file: &[u8], at: Position, kind: Kind) -> Position
             number,
             place: crate::line::value_end(file, at.place, kind),
         },
+        _ => pass_idle(file, at, soonest),
     }
+}
+
+// A block of 64 octets in which such a line begins is not looked at again for each of its lines.
+fn next_look(soonest: Place, over: Place) -> Place
+    requires { ⌜ over .offset + 64 < 2 ^ 64 ⌝ }
+    ensures { λ r. ⌜ r ≡ nextLook soonest over ⌝ }
+{
+    if over.offset < soonest.offset {
+        return soonest;
+    }
+    let next = over.offset + 64;
+    Place { offset: next }
 }
 
 // After all lines of a file, for those whose groups apply.
@@ -139,11 +162,13 @@ pub fn gather(
     let mut h = hearing::nothing_heard();
     let mut c = considering::none_considered();
     let mut at = crate::line::first_line(file);
+    let mut soonest = at.place;
     while at.place.offset < file.len() {
         let here = at;
         let start = here.place.offset;
-        let kind = kinds::line::kind_of(classes, &file[start..]);
-        let over = pass_line(file, here, kind);
+        let kind = kinds::entry::entry_kind(classes, &file[start..]);
+        let over = pass_line(file, here, kind, soonest);
+        soonest = next_look(soonest, over.place);
         at = crate::line::next_line(over, lines::span::next_place(classes, file, over.place));
         let Kind::Rule(side, pattern) = kind else {
             h = hear_other(classes, h, audience, name, file, here.place, kind);

@@ -1,4 +1,4 @@
-// Lines of a file: the first and the next one, and the value of a line that begins at `at` and is of that kind.
+// Lines of a file: the first and the next one, and the value of a line that begins at `at` and is of that kind, for a pass over the file.
 
 ghost use mathlib.Core.Path.{_≡_};
 ghost use Prim.Native.Nat.{_+_, _≤_, _<_, _^_};
@@ -6,6 +6,7 @@ ghost use lib.ListN.{length};
 ghost use Rattle.protocol.specs.Lines.{lineNumber, placeAt, numberAfter, skipped};
 ghost use Rattle.protocol.specs.Kinds.{kindOf};
 ghost use Rattle.lines.specs.Spans.{textAt};
+ghost use Rattle.kinds.specs.Entries.{entryKind};
 ghost use Rattle.passes.specs.Entries.{lineValue, valueEnd};
 use protocol::Kind;
 use protocol::LineNumber;
@@ -37,7 +38,7 @@ pub fn next_line(at: Position, place: Place) -> Position
 
 // Where the value ends, which is inside of the line or at its end.
 pub fn value_end(file: &[u8], at: Place, kind: Kind) -> Place
-    requires { ⌜ (at .offset ≤ length (now file)) × (kind ≡ kindOf (textAt (now file) at)) ⌝ }
+    requires { ⌜ (at .offset ≤ length (now file)) × (kind ≡ entryKind (kindOf (textAt (now file) at))) ⌝ }
     ensures { λ r. ⌜ r ≡ valueEnd at kind ⌝ }
 {
     let place = numbers::place_of(kind);
@@ -48,7 +49,7 @@ pub fn value_end(file: &[u8], at: Place, kind: Kind) -> Place
 
 // Its octets.
 pub fn value_of(file: &[u8], at: Place, kind: Kind) -> &[u8]
-    requires { ⌜ (at .offset ≤ length (now file)) × (kind ≡ kindOf (textAt (now file) at)) ⌝ }
+    requires { ⌜ (at .offset ≤ length (now file)) × (kind ≡ entryKind (kindOf (textAt (now file) at))) ⌝ }
     ensures { λ r. ⌜ now r ≡ lineValue (now (file .entry)) at kind ⌝ }
 {
     let last = value_end(file, at, kind);

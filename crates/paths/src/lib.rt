@@ -6,12 +6,14 @@ ghost use Rattle.protocol.specs.Refusals.{outsidePath, pathRows, refusal, norma
 ghost use Rattle.protocol.specs.Decision.{isRobotsFile};
 ghost use Rattle.protocol.specs.Answers.{normaliseOf, normaliseBuffer};
 use protocol::Normalised;
+use protocol::Place;
 
-// Some octet can't stand in a path.
+// Some octet can't stand in a path. Most paths hold none up to "#", and many octets at a time are passed over up to the first.
 fn holds_outside(path: &[u8]) -> bool
     ensures { λ r. ⌜ r ≡ any outsidePath (now (path .entry)) ⌝ }
 {
-    let mut i = 0;
+    let low = text::seek(path, Place { offset: 0 }, 0, b'#', true);
+    let mut i = low.offset;
     while i < path.len() {
         if octets::is_outside_path(path[i]) {
             return true;

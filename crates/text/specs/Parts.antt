@@ -16,10 +16,6 @@ use Rattle.protocol.specs.Lines.{placeAfter}
 abbrev pub equals : ℕ → ℕ → Bool
 equals x y = eqb y x
 
--- x is one of the octets from low to high; where `inside` is false, one of the others
-abbrev pub among : ℕ → ℕ → Bool → ℕ → Bool
-among low high inside x = if inside then within low high x else not (within low high x)
-
 -- the place of the first octet from p on that passes the test, or the text's end
 abbrev pub firstFrom : (ℕ → Bool) → List ℕ → Place → Place
 firstFrom f s p = placeAfter p (length (upTo f (drop (p .offset) s)))

@@ -3,13 +3,15 @@
 pub mod same; // same.rt: beginnings, ASCII case ignored
 
 ghost use mathlib.Core.Path.{_≡_};
+ghost use mathlib.Core.List.{map};
 ghost use Prim.Native.Nat.{_≤_};
 ghost use lib.ListN.{length, drop};
 ghost use Rattle.lists.specs.Lists.{all, any, upTo};
 ghost use Rattle.protocol.specs.Text.{lead, trimEnd};
 ghost use Rattle.protocol.specs.Octets.{lineEnd};
 ghost use Rattle.protocol.specs.Classes.{classTable};
-ghost use Rattle.text.specs.Parts.{among, equals, firstFrom, sought, past};
+ghost use Rattle.words.specs.Words.{octetsOf, among, mark};
+ghost use Rattle.text.specs.Parts.{equals, firstFrom, sought, past};
 use protocol::ClassTable;
 use protocol::Place;
 use protocol::Sort;
@@ -22,44 +24,23 @@ fn is_among(x: u8, low: u8, high: u8, inside: bool) -> bool
     is_within == inside
 }
 
-// The octets of a block of 64 in front of the first of that sort. All are looked at, so that the compiler can look at many at a time.
-fn front_of_block(s: &[u8], low: u8, high: u8, inside: bool) -> usize
-    requires { ⌜ length (now s) ≡ 64 ⌝ }
-    ensures { λ r. ⌜ r ≡ length (upTo (among low high inside) (now (s .entry))) ⌝ }
-{
-    let mut first = 64u8;
-    let mut i = 0u8;
-    while i < 64 {
-        let here = if is_among(s[i as usize], low, high, inside) {
-            i
-        } else {
-            64
-        };
-        if here < first {
-            first = here;
-        }
-        i += 1;
-    }
-    first as usize
-}
-
-// A place from which the search goes on: behind whole blocks without an octet of that sort, or at the first one.
-fn past_blocks(s: &[u8], from: Place, low: u8, high: u8, inside: bool) -> Place
+// A place from which the search goes on: behind whole words without an octet of that sort, or at the first one. Octets over 127 are sought one
+// by one.
+fn past_words(s: &[u8], from: Place, low: u8, high: u8, inside: bool) -> Place
     ensures { λ r. ⌜ firstFrom (among low high inside) (now (s .entry)) r ≡ firstFrom (among low high inside) (now (s .entry)) from ⌝ }
 {
-    if s.len() < 64 {
+    if 127 < low || 127 < high || s.len() < 8 {
         return from;
     }
-    let last = s.len() - 64;
+    let last = s.len() - 8;
     let mut i = from.offset;
     while i <= last {
-        let end = i + 64;
-        let front = front_of_block(&s[i..end], low, high, inside);
-        if front < 64 {
+        let front = words::first_mark(words::marks(words::word_at(s, i), low, high, inside));
+        if front < 8 {
             let found = i + front;
             return Place { offset: found };
         }
-        i = end;
+        i += 8;
     }
     Place { offset: i }
 }
@@ -68,7 +49,7 @@ fn past_blocks(s: &[u8], from: Place, low: u8, high: u8, inside: bool) -> Place
 pub fn seek(s: &[u8], from: Place, low: u8, high: u8, inside: bool) -> Place
     ensures { λ r. ⌜ r ≡ firstFrom (among low high inside) (now (s .entry)) from ⌝ }
 {
-    let start = past_blocks(s, from, low, high, inside);
+    let start = past_words(s, from, low, high, inside);
     let mut i = start.offset;
     while i < s.len() {
         if is_among(s[i], low, high, inside) {
@@ -87,19 +68,48 @@ pub fn find(s: &[u8], x: u8) -> usize
     place.offset
 }
 
+// 128 in the place of each CR and LF of a word.
+fn line_end_marks(w: u64) -> u64
+    ensures { λ r. ⌜ octetsOf 8 r ≡ map (mark lineEnd) (octetsOf 8 w) ⌝ }
+{
+    words::marks(w, b'\r', b'\r', true) | words::marks(w, b'\n', b'\n', true)
+}
+
+// A place from which the search for CR or LF goes on: behind whole words without one, or at the first one. Most words have no octet up to CR.
+fn past_line(s: &[u8], from: Place) -> Place
+    ensures { λ r. ⌜ firstFrom lineEnd (now (s .entry)) r ≡ firstFrom lineEnd (now (s .entry)) from ⌝ }
+{
+    if s.len() < 8 {
+        return from;
+    }
+    let last = s.len() - 8;
+    let mut i = from.offset;
+    while i <= last {
+        let w = words::word_at(s, i);
+        if words::marks(w, 0, b'\r', true) != 0 {
+            let front = words::first_mark(line_end_marks(w));
+            if front < 8 {
+                let found = i + front;
+                return Place { offset: found };
+            }
+        }
+        i += 8;
+    }
+    Place { offset: i }
+}
+
 // The place of the first CR or LF from `from` on, or the text's end.
 pub fn line_end(classes: &ClassTable, s: &[u8], from: Place) -> Place
     requires { ⌜ now classes ≡ classTable ⌝ }
     ensures { λ r. ⌜ r ≡ firstFrom lineEnd (now (s .entry)) from ⌝ }
 {
-    let mut i = from.offset;
+    let start = past_line(s, from);
+    let mut i = start.offset;
     while i < s.len() {
         if octets::is_of(classes, Sort::LineEnd, s[i]) {
             return Place { offset: i };
         }
-        let on = i + 1;
-        let low = seek(s, Place { offset: on }, 0, b'\r', true);
-        i = low.offset;
+        i += 1;
     }
     Place { offset: i }
 }

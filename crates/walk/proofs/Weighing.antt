@@ -8,7 +8,8 @@ use Rattle.lists.specs.Lists.{all}
 use Rattle.protocol.specs.declared.Walked.{Walked}
 use Rattle.protocol.specs.Pattern.{shapeOf, weight}
 use Rattle.protocol.specs.Walk.{first, walk}
-use Rattle.walk.specs.Texts.{walkScratch, literal, weighScratch}
+use Rattle.normal.specs.Literal.{literal}
+use Rattle.walk.specs.Texts.{walkScratch, weighScratch}
 use Rattle.walk.specs.Weights.{weighedWalk, weighed}
 use Rattle.walk.proofs.Literal.{literal-walk, literal-weight}
 

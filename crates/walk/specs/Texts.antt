@@ -5,11 +5,11 @@ use mathlib.Core.List.{List, [], _∷_, map}
 use Rattle.lists.specs.Choice.{if_then_else_}
 use Rattle.lists.specs.Lists.{all}
 use Rattle.protocol.specs.declared.Walked.{Walked}
-use Rattle.protocol.specs.Octets.{within}
 use Rattle.protocol.specs.Text.{ends}
 use Rattle.protocol.specs.Pattern.{rawText, firstRun, laterRuns}
 use Rattle.protocol.specs.Walk.{first, next, isLast, walkRuns}
 use Rattle.normal.specs.Runs.{normalRun, runScratch}
+use Rattle.normal.specs.Literal.{literal}
 
 -- the later runs of a raw text, each normalised
 abbrev pub runsOf : List ℕ → List (List ℕ)
@@ -35,10 +35,6 @@ scratchText endMark text path scratch =
 -- the scratch after the walk of a raw pattern
 unfoldable pub walkScratch : List ℕ → List ℕ → List ℕ → List ℕ
 walkScratch pattern path scratch = scratchText (ends "$" pattern) (rawText pattern) path scratch
-
--- an octet of a pattern that is no star and no end mark, and that normalising leaves as it is, whatever stands beside it
-abbrev pub literal : ℕ → Bool
-literal x = within 0x2B 0x7E x
 
 -- the scratch after a raw pattern is weighed: untouched where its octets are literal
 unfoldable pub weighScratch : List ℕ → List ℕ → List ℕ → List ℕ

@@ -10,10 +10,10 @@ ghost use Rattle.lists.specs.Lists.{all};
 ghost use Rattle.protocol.specs.Pattern.{shapeOf, weight};
 ghost use Rattle.protocol.specs.Walk.{first, next, walk};
 ghost use Rattle.normal.specs.Runs.{normalRun, runScratch};
-ghost use Rattle.walk.specs.Texts.{walkText, scratchText, walkScratch, literal, weighScratch};
+ghost use Rattle.normal.specs.Literal.{literal};
+ghost use Rattle.walk.specs.Texts.{walkText, scratchText, walkScratch, weighScratch};
 ghost use Rattle.walk.specs.Weights.{CountFits, weighedWalk, weighed};
 use normal::Written;
-use protocol::Place;
 use protocol::Walked;
 
 // A pattern's weight where it matches, 0 where it doesn't, and the pairs compared.
@@ -110,15 +110,7 @@ fn weighed_walk(w: Walked, weight: usize) -> Weighed
     }
 }
 
-// A pattern without a star, an end mark, and an octet that normalising could change.
-fn is_literal(pattern: &[u8]) -> bool
-    ensures { λ r. ⌜ r ≡ all literal (now (pattern .entry)) ⌝ }
-{
-    let end = text::seek(pattern, Place { offset: 0 }, 0x2B, 0x7E, false);
-    end.offset == pattern.len()
-}
-
-// Such a pattern is one run as it stands, and weighs its octets.
+// A pattern of literal octets is one run as it stands, and weighs its octets.
 fn weigh_literal(pattern: &[u8], path: &[u8]) -> Weighed
     requires { ⌜ all literal (now pattern) ≡ true ⌝ }
     ensures { λ r. ⌜ r ≡ weighed (now (pattern .entry)) (now (path .entry)) ⌝ }
@@ -133,7 +125,7 @@ pub fn weigh(pattern: &[u8], path: &[u8], scratch: &mut [u8]) -> Weighed
     ensures { λ r. ⌜ r ≡ weighed (now (pattern .entry)) (now (path .entry)) ⌝ }
     ensures { λ _. ⌜ now (scratch .exit) ≡ weighScratch (now (pattern .entry)) (now (path .entry)) (now (scratch .entry)) ⌝ }
 {
-    if is_literal(pattern) {
+    if normal::is_literal(pattern) {
         return weigh_literal(pattern, path);
     }
     let w = walk_pattern(pattern, path, scratch);

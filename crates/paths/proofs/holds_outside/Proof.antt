@@ -1,11 +1,18 @@
 -- `paths::holds_outside` meets its contract: what is left holds such an octet if and only if the whole does. Assumes nothing.
-use Prim.Native.Nat.{_-_, _≤_}
-use mathlib.Core.Path.{_≡_, refl, sym, _∙_}
+use Prim.Native.Nat.{ℕ, _-_, _≤_}
+use mathlib.Core.Path.{_≡_, sym, ap, _∙_}
+use mathlib.Core.Bool.{true}
+use mathlib.Core.List.{List}
 use native.Mathlib.Omega.{arith}
+use native.Mathlib.Nat.{zero-add}
 use lib.ListN.{length, drop}
-use Rattle.lists.specs.Lists.{any}
+use Rattle.lists.specs.Lists.{any, upTo}
+use Rattle.lists.proofs.Scans.{upTo-fits}
 use Rattle.lists.proofs.Tests.{any-end, any-here, any-on}
+use Rattle.protocol.specs.declared.Place.{Place}
 use Rattle.protocol.specs.Refusals.{outsidePath}
+use Rattle.words.specs.Words.{among}
+use Rattle.paths.proofs.Refused.{outside-sought}
 use Rattle.paths.proofs.holds_outside.Statement.{statement}
 use Rattle.paths.proofs.holds_outside.Tie as tie
 
@@ -15,8 +22,26 @@ Inv-loop path i₀ i = (i ≤ length path) × (any outsidePath (drop i path) ≡
 abbrev μ-loop : tie.MeasureT-loop
 μ-loop path i₀ i = length path - i
 
+seek-requires : tie.Need-seek-requires Inv-loop μ-loop
+seek-requires c κs = tt
+
+module _ (c : tie.After-seek Inv-loop μ-loop) where
+  abbrev whole : List ℕ
+  whole = c .before .before .args .path .now
+
+  low-found : c .seek .result .offset ≡ length (upTo (among 0 35 true) whole)
+  low-found = ap (λ (p : Place). p .offset) (c .seek .ensures) ∙ zero-add _
+
 loop-holds : tie.Need-loop-holds Inv-loop μ-loop
-loop-holds c = (omega arith, refl)
+loop-holds c =
+    (omega (arith, low-found c, upTo-fits (among 0 35 true) (whole c)), outside-sought (whole c) _ (low-found c))
+
+module _ (c : tie.At-loop Inv-loop μ-loop) where
+  abbrev path : List ℕ
+  path = whole (c .before)
+
+  abbrev i : ℕ
+  i = c .loop .i
 
 shared-slice-read-is-outside-path : tie.Need-shared-slice-read-is-outside-path Inv-loop μ-loop
 shared-slice-read-is-outside-path c = omega arith
@@ -28,7 +53,7 @@ returns : tie.Need-returns Inv-loop μ-loop
 returns c =
     let s = c .before .before .before .before in
     let e = sym (c .before .is-outside-path .ensures) ∙ c .if1 .taken in
-    sym (any-here outsidePath (s .before .before .args .path .now) (s .loop .i) 0 (omega arith) e) ∙ s .loop .inv .1
+    sym (any-here outsidePath (path s) (i s) 0 (omega arith) e) ∙ s .loop .inv .1
 
 add-i : tie.Need-add-i Inv-loop μ-loop
 add-i c = omega arith
@@ -40,12 +65,12 @@ loop-again : tie.Need-loop-again Inv-loop μ-loop
 loop-again c =
     let s = c .before .before .before .before in
     let e = sym (c .before .is-outside-path .ensures) ∙ c .if1 .left in
-    (omega arith, sym (any-on outsidePath (s .before .before .args .path .now) (s .loop .i) 0 (omega arith) e) ∙ s .loop .inv .1)
+    (omega arith, sym (any-on outsidePath (path s) (i s) 0 (omega arith) e) ∙ s .loop .inv .1)
 
 returns-2 : tie.Need-returns-2 Inv-loop μ-loop
 returns-2 c =
     let s = c .before in
-    sym (any-end outsidePath (s .before .before .args .path .now) (s .loop .i) (omega arith)) ∙ s .loop .inv .1
+    sym (any-end outsidePath (path s) (i s) (omega arith)) ∙ s .loop .inv .1
 
 pub holds-outside-spec : {M : Type 1} → statement M
 holds-outside-spec =
@@ -53,6 +78,7 @@ holds-outside-spec =
     (tie.spec
     Inv-loop
     μ-loop
+    seek-requires
     loop-holds
     shared-slice-read-is-outside-path
     is-outside-path-requires

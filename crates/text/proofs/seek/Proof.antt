@@ -9,7 +9,7 @@ use Rattle.lists.specs.Lists.{upTo}
 use Rattle.lists.proofs.Scans.{scan-none, scan-stop, scan-on}
 use Rattle.protocol.specs.declared.Place.{Place}
 use Rattle.protocol.specs.Lines.{placeAt}
-use Rattle.text.specs.Parts.{among}
+use Rattle.words.specs.Words.{among}
 use Rattle.text.proofs.seek.Statement.{statement}
 use Rattle.text.proofs.seek.Tie as tie
 
@@ -20,8 +20,8 @@ Inv-loop s low high inside i₀ i =
 abbrev μ-loop : tie.MeasureT-loop
 μ-loop s low high inside i₀ i = length s - i
 
-past-blocks-requires : tie.Need-past-blocks-requires Inv-loop μ-loop
-past-blocks-requires c κs = tt
+past-words-requires : tie.Need-past-words-requires Inv-loop μ-loop
+past-words-requires c κs = tt
 
 loop-holds : tie.Need-loop-holds Inv-loop μ-loop
 loop-holds c = refl
@@ -48,7 +48,7 @@ module _ (l : tie.At-loop Inv-loop μ-loop) where
 
   -- what is left gives the whole
   whole : here + length (upTo sought (drop here text)) ≡ start .args .from .offset + length (upTo sought (drop (start .args .from .offset) text))
-  whole = l .loop .inv ∙ ap (λ (p : Place). p .offset) (l .before .past-blocks .ensures)
+  whole = l .loop .inv ∙ ap (λ (p : Place). p .offset) (l .before .past-words .ensures)
 
 -- the octet there, looked at
 module _ (c : tie.After-is-among Inv-loop μ-loop) where
@@ -83,7 +83,7 @@ seek-spec =
     (tie.spec
     Inv-loop
     μ-loop
-    past-blocks-requires
+    past-words-requires
     loop-holds
     shared-slice-read-is-among
     is-among-requires

@@ -1,44 +1,39 @@
 -- `lines::skip::is_quiet` meets its contract: what is found, or what is left, gives the whole answer. Assumes nothing.
 use Prim.Native.Nat.{_+_, _-_, _≤_}
-use mathlib.Core.Path.{_≡_, refl, sym, ap, _∙_}
-use mathlib.Core.Bool.{Bool, _&&_, and-true, and-false}
-use mathlib.Core.Logic.{⊎-elim}
+use mathlib.Core.Path.{_≡_, refl, sym, ap, ap₂, _∙_}
+use mathlib.Core.Bool.{Bool, false, _&&_, _||_, not, or-false, or-assoc}
+use mathlib.Core.List.{zip}
 use native.Mathlib.Omega.{arith}
-use lib.Dec.{eqb}
-use lib.ListN.{drop, getD, length-drop}
-use borrow.Author.Tests.{ne-eqb}
-use Rattle.protocol.specs.Octets.{lineEnd}
-use Rattle.lines.specs.Skips.{quiet}
-use Rattle.lines.proofs.Skips.{quiet-one, quiet-stop, quiet-on}
+use lib.ListN.{length, drop}
+use Rattle.lists.specs.Lists.{any}
+use Rattle.lists.proofs.Tests.{any-end}
+use Rattle.lines.specs.Skips.{opens}
+use Rattle.lines.proofs.Pairs.{zip-length}
+use Rattle.lines.proofs.Skips.{opens-next}
 use Rattle.lines.proofs.skip.is_quiet.Statement.{statement}
 use Rattle.lines.proofs.skip.is_quiet.Tie as tie
 
 abbrev Inv-loop : tie.InvT-loop
-Inv-loop b rules found₀ i₀ found i = (found ≤ i) × (i ≤ 64) × ((eqb found 0 && quiet rules (drop i b)) ≡ quiet rules b)
+Inv-loop b behind found₀ i₀ found i =
+    (i ≤ length b) × ((found || any (opens false) (drop i (zip b behind))) ≡ any (opens false) (zip b behind))
 
 abbrev μ-loop : tie.MeasureT-loop
-μ-loop b rules found₀ i₀ found i = 64 - i
+μ-loop b behind found₀ i₀ found i = length b - i
 
 loop-holds : tie.Need-loop-holds Inv-loop μ-loop
-loop-holds c = (omega arith, omega arith, refl)
+loop-holds c = (omega arith, refl)
 
-shared-slice-read-if1 : tie.Need-shared-slice-read-if1 Inv-loop μ-loop
-shared-slice-read-if1 c = omega arith
+shared-slice-read-ends-line : tie.Need-shared-slice-read-ends-line Inv-loop μ-loop
+shared-slice-read-ends-line c = omega arith
 
-shared-slice-read-if1-2 : tie.Need-shared-slice-read-if1-2 Inv-loop μ-loop
-shared-slice-read-if1-2 c = omega arith
-
-add-may-begin : tie.Need-add-may-begin Inv-loop μ-loop
-add-may-begin c = omega arith
+ends-line-requires : tie.Need-ends-line-requires Inv-loop μ-loop
+ends-line-requires c κs = tt
 
 shared-slice-read-may-begin : tie.Need-shared-slice-read-may-begin Inv-loop μ-loop
 shared-slice-read-may-begin c = omega arith
 
 may-begin-requires : tie.Need-may-begin-requires Inv-loop μ-loop
 may-begin-requires c κs = tt
-
-add-found : tie.Need-add-found Inv-loop μ-loop
-add-found c = omega arith
 
 add-i : tie.Need-add-i Inv-loop μ-loop
 add-i c = omega arith
@@ -47,33 +42,24 @@ loop-less : tie.Need-loop-less Inv-loop μ-loop
 loop-less c = omega arith
 
 loop-again : tie.Need-loop-again Inv-loop μ-loop
-unfolding lineEnd
 loop-again c =
-    let p = c .before in
-    let l = p .before .before .before .before .before in
-    let a = l .before .before .args in
-    let test = ap (λ (m : Bool). lineEnd (getD (a .b .now) (l .loop .i) 0) && m) (sym (p .may-begin .ensures)) in
-    ⊎-elim
-    (λ w. (
-      omega (arith, w .1),
+    let e = c .before .before in
+    let l = e .before .before .before in
+    let a = l .before .before .before .args in
+    let rest : Bool = any (opens false) (drop (l .loop .i + 1) (zip (a .b .now) (a .behind .now))) in
+    let next = opens-next (a .b .now) (a .behind .now) (l .loop .i) (omega arith) (omega arith) false in (
       omega arith,
-      rw (w .1, ne-eqb (l .loop .found + 1) 0 (λ e. omega arith))
-          (sym (and-false (eqb (l .loop .found) 0))
-          ∙ (rw (quiet-stop (a .b .now) (l .loop .i) (omega arith) (a .rules) (test ∙ w .0 .taken)) at (l .loop .inv .2))),
-    ))
-    (λ w. (
-      omega (arith, w .1),
-      omega arith,
-      rw (w .1, ← quiet-on (a .b .now) (l .loop .i) (omega arith) (a .rules) (test ∙ w .0 .left)) (l .loop .inv .2),
-    ))
-    (c .if1 .came)
+      or-assoc (l .loop .found) (e .ends-line .result && c .may-begin .result) rest
+          ∙ ap (λ (x : Bool). l .loop .found || x) (ap (λ (x : Bool). x || rest) (ap₂ _&&_ (e .ends-line .ensures) (c .may-begin .ensures)) ∙ sym next)
+          ∙ l .loop .inv .1,
+    )
 
 returns : tie.Need-returns Inv-loop μ-loop
 returns c =
     let l = c .before in
-    let a = l .before .before .args in
-    sym (and-true (eqb (l .loop .found) 0))
-    ∙ (rw (quiet-one (a .rules) (drop (l .loop .i) (a .b .now)) (simp length-drop (omega arith))) at (l .loop .inv .2))
+    let a = l .before .before .before .args in
+    let all = any-end (opens false) (zip (a .b .now) (a .behind .now)) (l .loop .i) (rw zip-length (omega arith)) in
+    ap not (sym (or-false (l .loop .found)) ∙ rw all at (l .loop .inv .1))
 
 pub is-quiet-spec : {M : Type 1} → statement M
 is-quiet-spec =
@@ -82,12 +68,10 @@ is-quiet-spec =
     Inv-loop
     μ-loop
     loop-holds
-    shared-slice-read-if1
-    shared-slice-read-if1-2
-    add-may-begin
+    shared-slice-read-ends-line
+    ends-line-requires
     shared-slice-read-may-begin
     may-begin-requires
-    add-found
     add-i
     loop-less
     loop-again

@@ -1,17 +1,36 @@
 -- `lines::span::next_place` meets its contract. Assumes nothing.
 use Prim.Native.Nat.{ℕ}
-use mathlib.Core.Path.{_≡_, ap, _∙_}
+use mathlib.Core.Path.{_≡_, sym, ap, _∙_}
+use mathlib.Core.Bool.{true}
 use mathlib.Core.List.{List}
 use native.Mathlib.Omega.{arith}
-use lib.ListN.{length-drop}
+use lib.ListN.{drop, length-drop}
 use borrow.Author.Needs.{needs}
 use Rattle.lists.proofs.Scans.{rest-of}
 use Rattle.protocol.specs.declared.Place.{Place}
+use Rattle.protocol.specs.Text.{begins}
 use Rattle.protocol.specs.Lines.{placeAfter, endingLength}
 use Rattle.lines.specs.Spans.{nextAt}
-use Rattle.lines.proofs.Forward.{next-of, ends-there, next-end, next-inside}
+use Rattle.lines.proofs.Forward.{begins-below, next-lf, next-of, ends-there, next-end, next-inside}
 use Rattle.lines.proofs.span.next_place.Statement.{statement}
 use Rattle.lines.proofs.span.next_place.Tie as tie
+
+is-lf-at-requires : tie.Need-is-lf-at-requires
+is-lf-at-requires c κs = tt
+
+-- LF stands there
+module _ (c : tie.Then1) where
+  abbrev given : tie.Start
+  given = c .before .before .before
+
+  told : begins "\n" (drop (given .args .from .offset) (given .args .file .now)) ≡ true
+  told = sym (c .before .is-lf-at .ensures) ∙ c .if1 .taken
+
+add-behind : tie.Need-add-behind
+add-behind c = let t = c .before in omega (arith, begins-below (given t .args .file .now) (given t .args .from .offset) (told t))
+
+returns : tie.Need-returns
+returns c = let t = c .before in next-lf (given t .args .file .now) (given t .args .from) (told t)
 
 line-end-requires : tie.Need-line-end-requires
 line-end-requires c κs = search needs
@@ -19,16 +38,16 @@ line-end-requires c κs = search needs
 -- the place behind the text, and behind the ending there
 module _ (c : tie.After-line-end) where
   abbrev file : List ℕ
-  file = c .before .before .args .file .now
+  file = c .before .before .before .before .args .file .now
 
   abbrev from : Place
-  from = c .before .before .args .from
+  from = c .before .before .before .before .args .from
 
   abbrev end : Place
   end = c .line-end .result
 
-returns : tie.Need-returns
-returns c = next-end (file (c .before)) (from (c .before)) (end (c .before)) (c .before .line-end .ensures) (omega arith)
+returns-2 : tie.Need-returns-2
+returns-2 c = next-end (file (c .before)) (from (c .before)) (end (c .before)) (c .before .line-end .ensures) (omega arith)
 
 sub-ending-length : tie.Need-sub-ending-length
 sub-ending-length c = search needs
@@ -59,18 +78,21 @@ add-next c =
     let e : end f .offset ≡ _ = ap (λ (p : Place). p .offset) (f .line-end .ensures) in
     omega (arith, ap (λ (p : Place). p .offset) (next c), next-inside (file f) (from f) (omega (arith, e)))
 
-returns-2 : tie.Need-returns-2
-returns-2 c = next c
+returns-3 : tie.Need-returns-3
+returns-3 c = next c
 
 pub next-place-spec : {M : Type 1} → statement M
 next-place-spec =
     tie.close
     (tie.spec
-    line-end-requires
+    is-lf-at-requires
+    add-behind
     returns
+    line-end-requires
+    returns-2
     sub-ending-length
     part-ending-length-start
     part-ending-length-end
     ending-length-requires
     add-next
-    returns-2)
+    returns-3)

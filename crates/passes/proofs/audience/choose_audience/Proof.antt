@@ -1,52 +1,56 @@
 -- `passes::audience::choose_audience` meets its contract: the lines that are left tell whose groups apply. Assumes nothing.
-use Prim.Native.Nat.{ℕ, _+_, _-_, _≤_, _<_}
+use Prim.Native.Nat.{ℕ, _-_, _<_}
 use mathlib.Core.Path.{_≡_, sym, ap, _∙_}
-use mathlib.Core.Bool.{false}
 use mathlib.Core.List.{List}
 use native.Mathlib.Omega.{arith}
 use lib.ListN.{length}
 use borrow.Author.Needs.{needs}
+use Rattle.protocol.specs.declared.LineNumber.{LineNumber}
 use Rattle.protocol.specs.declared.Place.{Place}
 use Rattle.protocol.specs.declared.Position.{Position}
-use Rattle.protocol.specs.Lines.{numberAfter}
+use Rattle.protocol.specs.Lines.{lineNumber}
 use Rattle.protocol.specs.Entries.{entries}
 use Rattle.protocol.specs.Rules as Rules
-use Rattle.lines.proofs.Forward.{next-inside}
-use Rattle.lines.proofs.Passing.{past-inside, past-further, past-few}
-use Rattle.passes.proofs.Turns.{lineBehind, audienceLeft, audience-all, audience-none, audience-here, audience-turn}
+use Rattle.lines.proofs.Passing.{agents-further}
+use Rattle.passes.proofs.Turns.{audienceLeft, audience-all, audience-none, audience-here, audience-turn}
 use Rattle.passes.proofs.audience.choose_audience.Statement.{statement}
 use Rattle.passes.proofs.audience.choose_audience.Tie as tie
 
+-- whatever the number of the line there
 abbrev Inv-loop : tie.InvT-loop
 Inv-loop classes file name audience₀ at₀ audience at =
-    (audienceLeft file name audience at ≡ Rules.audience file (entries file) name) × (at .number .number ≤ at .place .offset + 1)
+    (n : LineNumber) × (audienceLeft file name audience (record { number = n; place = at }) ≡ Rules.audience file (entries file) name)
 
 abbrev μ-loop : tie.MeasureT-loop
-μ-loop classes file name audience₀ at₀ audience at = length file - at .place .offset
+μ-loop classes file name audience₀ at₀ audience at = length file - at .offset
 
-first-line-requires : tie.Need-first-line-requires Inv-loop μ-loop
-first-line-requires c κs = tt
+first-place-requires : tie.Need-first-place-requires Inv-loop μ-loop
+first-place-requires c κs = tt
 
 loop-holds : tie.Need-loop-holds Inv-loop μ-loop
 loop-holds c =
     let a = c .before .before .before .args in
-    rw (c .first-line .ensures) (audience-all (a .file .now) (a .name .now), omega arith)
+    (lineNumber 1, rw (c .first-place .ensures) (audience-all (a .file .now) (a .name .now)))
 
--- the line where a turn begins
+-- the file, and the line where a turn begins
+module _ (c : tie.At-loop Inv-loop μ-loop) where
+  abbrev start : tie.Start Inv-loop μ-loop
+  start = c .before .before .before .before
+
+  abbrev file : List ℕ
+  file = start .args .file .now
+
+  abbrev name : List ℕ
+  name = start .args .name .now
+
+  abbrev at : Position
+  at = record { number = c .loop .inv .0; place = c .loop .at }
+
 module _ (c : tie.Then1 Inv-loop μ-loop) where
   abbrev turn : tie.At-loop Inv-loop μ-loop
   turn = c .before .before
 
-  abbrev file : List ℕ
-  file = c .before .before .before .before .before .before .args .file .now
-
-  abbrev name : List ℕ
-  name = c .before .before .before .before .before .before .args .name .now
-
-  abbrev at : Position
-  at = turn .loop .at
-
-  inside : at .place .offset < length file
+  inside : at turn .place .offset < length (file turn)
   inside = c .if1 .taken
 
 line-audience-requires : tie.Need-line-audience-requires Inv-loop μ-loop
@@ -58,66 +62,46 @@ enum-told c = search needs
 returns : tie.Need-returns Inv-loop μ-loop
 returns c =
     let l = c .before .before in
-    let t = l .before in
+    let t = turn (l .before) in
     let told = c .enum-told .given .1 in
-    told ∙ audience-here (file t) (name t) (turn t .loop .audience) (at t) (inside t) (sym (l .line-audience .ensures) ∙ told) ∙ turn t .loop .inv .0
+    told
+    ∙ audience-here (file t) (name t) (t .loop .audience) (at t) (inside (l .before)) (sym (l .line-audience .ensures) ∙ told)
+    ∙ t .loop .inv .1
 
 unless-nobody-requires : tie.Need-unless-nobody-requires Inv-loop μ-loop
 unless-nobody-requires c κs = tt
 
-pass-requires : tie.Need-pass-requires Inv-loop μ-loop
-pass-requires c κs = let t = c .before .before .before in (omega (arith, inside t), turn t .loop .inv .1)
-
-next-place-requires : tie.Need-next-place-requires Inv-loop μ-loop
-next-place-requires c κs = search needs
+next-agent-requires : tie.Need-next-agent-requires Inv-loop μ-loop
+next-agent-requires c κs = inside (c .before .before .before)
 
 -- past some lines
-module _ (c : tie.After-next-place Inv-loop μ-loop) where
+module _ (c : tie.After-next-agent Inv-loop μ-loop) where
+  abbrev heard : tie.After-unless-nobody Inv-loop μ-loop
+  heard = c .before
+
+  abbrev told : tie.After-line-audience Inv-loop μ-loop
+  told = heard .before .before
+
   abbrev line : tie.Then1 Inv-loop μ-loop
-  line = c .before .before .before .before .before
-
-  abbrev over : Position
-  over = c .before .pass .result
-
-  further : at line .place .offset < lineBehind (file line) over .place .offset
-  further = past-further false (file line) (at line) over (c .before .pass .ensures .over) (inside line)
-
-  few : lineBehind (file line) over .number .number ≤ lineBehind (file line) over .place .offset + 1
-  few = past-few false (file line) (at line) over (c .before .pass .ensures .over) (inside line) (turn line .loop .inv .1)
-
-next-line-requires : tie.Need-next-line-requires Inv-loop μ-loop
-next-line-requires c κs =
-    let l = line c in
-    let at-end = past-inside false (file l) (at l) (over c) (c .before .pass .ensures .over) (inside l) in
-    omega (arith, few c, next-inside (file l) (over c .place) (omega (arith, at-end)))
-
--- the next line is the one behind
-next-known : (c : tie.After-next-line Inv-loop μ-loop) → c .next-line .result ≡ lineBehind (file (line (c .before))) (over (c .before))
-next-known c =
-    c .next-line .ensures
-    ∙ ap (λ (q : Place). record { number = numberAfter (over (c .before) .number) 1; place = q }) (c .before .next-place .ensures)
+  line = told .before
 
 loop-less : tie.Need-loop-less Inv-loop μ-loop
 loop-less c =
-    let b = c .before in
-    omega (arith, ap (λ (p : Position). p .place .offset) (next-known c), further b, inside (line b))
+    let t = turn (line c) in
+    omega (arith, ap (λ (p : Place). p .offset) (c .next-agent .ensures), agents-further (file t) (at t .place), inside (line c))
 
 loop-again : tie.Need-loop-again Inv-loop μ-loop
 loop-again c =
-    let b = c .before in
-    let l = line b in
-    let heard = b .before .before in
-    let t = turn l .loop in
-    let told = heard .before .before .line-audience in (
-      audience-turn (file l) (name l) (t .audience) (at l) (inside l) (over b) (b .before .pass .ensures) (told .result) (told .ensures) (heard .before .match .keys2) _ (heard .unless-nobody .ensures) _ (next-known c) ∙ t .inv .0,
-      omega (arith, ap (λ (p : Position). p .place .offset) (next-known c), ap (λ (p : Position). p .number .number) (next-known c), few b),
-    )
+    let t = turn (line c) in
+    let here = told c .line-audience in
+    let left =
+    audience-turn (file t) (name t) (t .loop .audience) (at t) (inside (line c)) (here .result) (here .ensures) (heard c .before .match .keys2) _ (heard c .unless-nobody .ensures) _ (c .next-agent .ensures) in
+    (left .0, left .1 ∙ t .loop .inv .1)
 
 returns-2 : tie.Need-returns-2 Inv-loop μ-loop
 returns-2 c =
     let t = c .before .before in
-    let a = c .before .before .before .before .before .before .args in
-    audience-none (a .file .now) (a .name .now) (t .loop .audience) (t .loop .at) (c .if1 .left) ∙ t .loop .inv .0
+    audience-none (file t) (name t) (t .loop .audience) (at t) (c .if1 .left) ∙ t .loop .inv .1
 
 pub choose-audience-spec : {M : Type 1} → statement M
 choose-audience-spec =
@@ -125,15 +109,13 @@ choose-audience-spec =
     (tie.spec
     Inv-loop
     μ-loop
-    first-line-requires
+    first-place-requires
     loop-holds
     line-audience-requires
     enum-told
     returns
     unless-nobody-requires
-    pass-requires
-    next-place-requires
-    next-line-requires
+    next-agent-requires
     loop-less
     loop-again
     returns-2)

@@ -11,20 +11,22 @@ use Rattle.protocol.specs.declared.Position.{Position}
 use Rattle.protocol.specs.Lines.{numberAfter}
 use Rattle.protocol.specs.Kinds.{kindOf}
 use Rattle.lines.specs.Spans.{textAt}
+use Rattle.kinds.specs.Entries.{entryKind}
 use Rattle.lines.proofs.Forward.{next-inside}
 use Rattle.hearing.specs.Heard.{whom}
 use Rattle.passes.specs.Entries.{gathered}
 use Rattle.passes.specs.Steps.{PassedLine}
+use Rattle.passes.proofs.Lines.{entry-rule}
 use Rattle.passes.proofs.Turns.{lineBehind, left-all, left-none, Reached, reached-other, reached-rule}
 use Rattle.passes.proofs.gather.gather.Statement.{statement}
 use Rattle.passes.proofs.gather.gather.Tie as tie
 
 abbrev Inv-loop : tie.InvT-loop
-Inv-loop classes file audience name path scratch₀ heard₀ considered₀ at₀ scratch heard considered at =
+Inv-loop classes file audience name path scratch₀ heard₀ considered₀ at₀ soonest₀ scratch heard considered at soonest =
     Reached file (whom audience name) path scratch₀ scratch heard considered at (gathered file name audience path)
 
 abbrev μ-loop : tie.MeasureT-loop
-μ-loop classes file audience name path scratch₀ heard₀ considered₀ at₀ scratch heard considered at = length file - at .place .offset
+μ-loop classes file audience name path scratch₀ heard₀ considered₀ at₀ soonest₀ scratch heard considered at soonest = length file - at .place .offset
 
 nothing-heard-requires : tie.Need-nothing-heard-requires Inv-loop μ-loop
 nothing-heard-requires c κs = tt
@@ -37,8 +39,9 @@ first-line-requires c κs = tt
 
 loop-holds : tie.Need-loop-holds Inv-loop μ-loop
 loop-holds c =
-    let a = c .before .before .before .before .before .before .before .args in
-    rw (c .first-line .ensures, c .before .none-considered .ensures, c .before .before .nothing-heard .ensures)
+    let f = c .before in
+    let a = f .before .before .before .before .before .before .before .args in
+    rw (f .first-line .ensures, f .before .none-considered .ensures, f .before .before .nothing-heard .ensures)
     (record {
       left = left-all (a .file .now) (a .name .now) (a .audience) (a .path .now);
       same = refl;
@@ -53,7 +56,7 @@ module _ (c : tie.Then1 Inv-loop μ-loop) where
   turn = c .before .before
 
   abbrev entry : tie.Start Inv-loop μ-loop
-  entry = c .before .before .before .before .before .before .before .before .before .before
+  entry = c .before .before .before .before .before .before .before .before .before .before .before
 
   abbrev file : List ℕ
   file = entry .args .file .now
@@ -64,48 +67,51 @@ module _ (c : tie.Then1 Inv-loop μ-loop) where
   inside : at .place .offset < length file
   inside = c .if1 .taken
 
-sub-kind-of : tie.Need-sub-kind-of Inv-loop μ-loop
-sub-kind-of c = omega (arith, inside c)
+sub-entry-kind : tie.Need-sub-entry-kind Inv-loop μ-loop
+sub-entry-kind c = omega (arith, inside c)
 
-part-kind-of-start : tie.Need-part-kind-of-start Inv-loop μ-loop
-part-kind-of-start c = omega (arith, inside c)
+part-entry-kind-start : tie.Need-part-entry-kind-start Inv-loop μ-loop
+part-entry-kind-start c = omega (arith, inside c)
 
-part-kind-of-end : tie.Need-part-kind-of-end Inv-loop μ-loop
-part-kind-of-end c = omega (arith, inside c)
+part-entry-kind-end : tie.Need-part-entry-kind-end Inv-loop μ-loop
+part-entry-kind-end c = omega (arith, inside c)
 
-kind-of-requires : tie.Need-kind-of-requires Inv-loop μ-loop
-kind-of-requires c κs = search needs
+entry-kind-requires : tie.Need-entry-kind-requires Inv-loop μ-loop
+entry-kind-requires c κs = search needs
 
 -- its kind
-module _ (c : tie.After-kind-of Inv-loop μ-loop) where
+module _ (c : tie.After-entry-kind Inv-loop μ-loop) where
   abbrev line : tie.Then1 Inv-loop μ-loop
   line = c .before .before
 
-  kind-known : c .kind-of .result ≡ kindOf (textAt (file line) (at line .place))
-  kind-known = rw (rest-of (at line .place .offset) (file line)) at (c .kind-of .ensures)
+  kind-known : c .entry-kind .result ≡ entryKind (kindOf (textAt (file line) (at line .place)))
+  kind-known = rw (rest-of (at line .place .offset) (file line)) at (c .entry-kind .ensures)
 
 pass-line-requires : tie.Need-pass-line-requires Inv-loop μ-loop
 pass-line-requires c κs = let l = line c in (inside l, turn l .loop .inv .counted, kind-known c)
 
+next-look-requires : tie.Need-next-look-requires Inv-loop μ-loop
+next-look-requires c κs = let l = line (c .before) in omega (arith, c .pass-line .ensures .inside, entry l .pre .1)
+
 next-place-requires : tie.Need-next-place-requires Inv-loop μ-loop
-next-place-requires c κs = entry (line (c .before)) .pre .0
+next-place-requires c κs = entry (line (c .before .before)) .pre .0
 
 next-line-requires : tie.Need-next-line-requires Inv-loop μ-loop
 next-line-requires c κs =
-    let past = c .before .pass-line .ensures in
-    let l = line (c .before .before) in
-    omega (arith, past .counted, next-inside (file l) (c .before .pass-line .result .place) (past .inside), entry l .pre .1)
+    let past = c .before .before .pass-line .ensures in
+    let l = line (c .before .before .before) in
+    omega (arith, past .counted, next-inside (file l) (c .before .before .pass-line .result .place) (past .inside), entry l .pre .1)
 
 -- the next line, behind those that are passed
 module _ (c : tie.After-next-line Inv-loop μ-loop) where
-  abbrev told : tie.After-kind-of Inv-loop μ-loop
-  told = c .before .before .before
+  abbrev told : tie.After-entry-kind Inv-loop μ-loop
+  told = c .before .before .before .before
 
   abbrev over : Position
-  over = c .before .before .pass-line .result
+  over = c .before .before .before .pass-line .result
 
   passed : PassedLine (file (line told)) (at (line told)) over
-  passed = c .before .before .pass-line .ensures
+  passed = c .before .before .before .pass-line .ensures
 
   next-known : c .next-line .result ≡ lineBehind (file (line told)) over
   next-known =
@@ -142,7 +148,7 @@ consider-rule-requires c κs =
     let l = line k in
     let t = turn l .loop in
     let s = entry l in (
-      sym (c .before .before .kind .given .1) ∙ kind-known k,
+      sym (entry-rule (kindOf (textAt (file l) (at l .place))) _ _ (sym (kind-known k) ∙ c .before .before .kind .given .1)),
       record {
         size = s .pre .1;
         inside = omega (arith, inside l);
@@ -181,7 +187,7 @@ same-length c = c .before .before .loop .inv .same
 returns : tie.Need-returns Inv-loop μ-loop
 returns c =
     let t = c .before .before .loop in
-    let a = c .before .before .before .before .before .before .before .before .before .before .args in
+    let a = c .before .before .before .before .before .before .before .before .before .before .before .args in
     (left-none (a .file .now) (whom (a .audience) (a .name .now)) (a .path .now) (t .h) (t .c) (t .at) _ (t .inv .left) (c .if1 .left), t .inv .same)
 
 pub gather-spec : {M : Type 1} → statement M
@@ -194,11 +200,12 @@ gather-spec =
     none-considered-requires
     first-line-requires
     loop-holds
-    sub-kind-of
-    part-kind-of-start
-    part-kind-of-end
-    kind-of-requires
+    sub-entry-kind
+    part-entry-kind-start
+    part-entry-kind-end
+    entry-kind-requires
     pass-line-requires
+    next-look-requires
     next-place-requires
     next-line-requires
     enum-known-kind

@@ -1,0 +1,122 @@
+-- The head of a line that begins with a name, or with an octet that is neither space nor tab. Assumes nothing.
+use Prim.Native.Nat.{ℕ, suc, _+_, _-_, _≤_}
+use mathlib.Core.Path.{_≡_, refl, sym, ap, _∙_}
+use mathlib.Core.Bool.{true, false, _&&_}
+use mathlib.Core.List.{List, [], _∷_}
+use native.Mathlib.Omega.{arith}
+use lib.Dec.{leb}
+use lib.ListN.{length, take, drop, getD}
+use lib.Seq.{drop-drop}
+use borrow.Author.Tests.{lt-leb}
+use types.Run.{OneOf, hit, miss}
+use denote.Enum.Declared.{tagOf}
+use Rattle.lists.specs.Choice.{if_then_else_}
+use Rattle.lists.specs.Lists.{upTo, from, same}
+use Rattle.lists.proofs.Bools.{split, and-left}
+use Rattle.lists.proofs.Scans.{rest-of, drop-one, drop-upTo}
+use Rattle.protocol.specs.declared.Place.{Place}
+use Rattle.protocol.specs.Octets.{is, blank, lineEnd}
+use Rattle.protocol.specs.Text.{octets, begins, sameIgnoringCase, solid, lead}
+use Rattle.protocol.specs.Lines.{placeAt}
+use Rattle.protocol.specs.Classes.{stop}
+use Rattle.fields.specs.declared.Field.{Field}
+use Rattle.fields.specs.declared.Head.{Head}
+use Rattle.fields.specs.Fields.{headAt, valueStart, headOf}
+use Rattle.fields.specs.Names.{nameLength, beginsName, fieldAt}
+use Rattle.fields.specs.Near.{nearValue, agentOf, agentOnly}
+use Rattle.fields.proofs.Field as F
+use Rattle.fields.proofs.Heads.{Known, field-begins, agent-told, field-known, head-other, head-some}
+use Rattle.fields.proofs.Sorts.{colon-solid, plain, plain-same}
+
+-- no space or tab stands in front
+lead-none : (t : List ℕ) → blank (getD t 0 0) ≡ false → lead t ≡ 0
+unfolding lead upTo
+lead-none [] e = refl
+lead-none (x ∷ t) e = rw e
+
+colon-lead : (t : List ℕ) → begins ":" t ≡ true → lead t ≡ 0
+unfolding lead upTo begins
+colon-lead [] e = refl
+colon-lead (x ∷ t) e = rw (colon-solid x e)
+
+name-lead : (y : ℕ) (v t : List ℕ) → plain y ≡ true → sameIgnoringCase (take (suc (length v)) t) (y ∷ v) ≡ true → lead t ≡ 0
+unfolding lead upTo sameIgnoringCase same
+name-lead y v [] p h = refl
+name-lead y v (x ∷ t) p h = rw (plain-same x y (and-left _ _ h) p .blanks)
+
+known-lead : (f : Field) (t : List ℕ) → Known f → beginsName f t ≡ true → lead t ≡ 0
+unfolding octets stop lineEnd blank
+known-lead Field.Agent t k = name-lead 117 (octets "ser-agent") t refl
+known-lead Field.Allow t k = name-lead 97 (octets "llow") t refl
+known-lead Field.Disallow t k = name-lead 100 (octets "isallow") t refl
+known-lead Field.Other t k = absurd (miss (0 ∷ 1 ∷ 2 ∷ []) 3 tt k)
+
+-- where the value begins, by three octets
+near-three : (k x y z : ℕ) (l : List ℕ)
+    → nearValue k (x ∷ y ∷ z ∷ l) ≡ (if is ":" x then (if blank y then (if blank z then 0 else k + 2) else k + 1) else 0)
+unfolding begins lead upTo
+near-three k x y z l =
+    split (is ":" x)
+    (λ e.
+    split (blank y)
+    (λ p.
+    split (blank z) (λ q. rw (e, p, q, lt-leb (suc (suc (lead l))) 1 (omega arith))) (λ q. rw (e, p, q) (omega arith)))
+    (λ p. rw (e, p) (omega arith)))
+    (λ e. rw e)
+
+module _ (r : List ℕ) (k : ℕ) (h : k + 3 ≤ length r) where
+  pub near-read : nearValue k (drop k r)
+      ≡ (if is ":" (getD r k 0) then (if blank (getD r (k + 1) 0) then (if blank (getD r (k + 2) 0) then 0 else k + 2) else k + 1) else 0)
+  near-read =
+      let next : k + 1 + 1 ≡ k + 2 = omega arith in
+      rw (drop-one r k 0 (omega arith), drop-one r (k + 1) 0 (omega arith), next, drop-one r (k + 2) 0 (omega arith))
+      (near-three k (getD r k 0) (getD r (k + 1) 0) (getD r (k + 2) 0) (drop (k + 2 + 1) r))
+
+-- a value that is near
+near-told : (k v : ℕ) (l : List ℕ) → v ≡ nearValue k l → (v ≡ 0 → ⊥) → (begins ":" l ≡ true) × (v ≡ k + 1 + lead (drop 1 l))
+near-told k v l e n =
+    split (begins ":" l && leb (lead (drop 1 l)) 1)
+    (λ b. (and-left (begins ":" l) (leb (lead (drop 1 l)) 1) b, e ∙ rw b))
+    (λ b. absurd (n (e ∙ rw b)))
+
+-- a head of another field
+pub not-agent : (f : Field) (h : Head) → OneOf (1 ∷ 2 ∷ 3 ∷ []) (tagOf F.the-type f) → record { field = Field.Other; value = placeAt 0 } ≡ agentOf f h
+not-agent Field.Agent h o = absurd (miss (1 ∷ 2 ∷ 3 ∷ []) 0 tt o)
+not-agent Field.Allow h o = refl
+not-agent Field.Disallow h o = refl
+not-agent Field.Other h o = refl
+
+module _ (r : List ℕ) where
+  whole : (f : Field) → f ≡ fieldAt r → f ≡ fieldAt (take (length r - 0) (drop 0 r))
+  whole f k = k ∙ ap fieldAt (sym (rest-of 0 r))
+
+  -- no field that is known
+  pub near-other : (f : Field) → f ≡ fieldAt r → f ≡ Field.Other → blank (getD r 0 0) ≡ false → record { field = Field.Other; value = placeAt 0 } ≡ headOf r
+  near-other f k o b = head-other r 0 f (sym (lead-none r b)) (whole f k) o
+
+  pub near-head : (f : Field) (k v : ℕ) → f ≡ fieldAt r → Known f → k ≡ nameLength f → v ≡ nearValue k (drop k r) → (v ≡ 0 → ⊥)
+      → record { field = f; value = placeAt v } ≡ headOf r
+  near-head f k v told known size value near =
+      let found = near-told k v (drop k r) value near in
+      let named : beginsName f r ≡ true = rw (← told) at (field-begins r) in
+      let colon : k ≡ k + lead (take (length r - k) (drop k r)) = omega (arith, ap lead (rest-of k r), colon-lead (drop k r) (found .0)) in
+      let behind : v ≡ k + 1 + lead (take (length r - (k + 1)) (drop (k + 1) r)) = found .1 ∙ rw (rest-of (k + 1) r, drop-drop 1 k r) in
+      head-some r 0 f (sym (known-lead f r known named)) (whole f told) k k (omega arith) colon v (found .0) known behind
+
+  -- an agent's head, and that of a line that doesn't begin with the agent's name
+  pub near-agent : (v : ℕ) → beginsName Field.Agent r ≡ true → v ≡ nearValue 10 (drop 10 r) → (v ≡ 0 → ⊥)
+      → record { field = Field.Agent; value = placeAt v } ≡ agentOnly (headOf r)
+  unfolding octets
+  near-agent v b e n = ap agentOnly (near-head Field.Agent 10 v (agent-told r b) (hit (0 ∷ 1 ∷ 2 ∷ []) 0 tt) refl e n)
+
+  at-not-agent : (p : Place) → beginsName Field.Agent r ≡ false → record { field = Field.Other; value = placeAt 0 } ≡ agentOnly (headAt (fieldAt r) p)
+  unfolding fieldAt
+  at-not-agent p a =
+      split (beginsName Field.Disallow r) (λ d. rw d) (λ d. split (beginsName Field.Allow r) (λ e. rw (d, e)) (λ e. rw (d, e, a)))
+
+  pub not-agent-head : beginsName Field.Agent r ≡ false → blank (getD r 0 0) ≡ false → record { field = Field.Other; value = placeAt 0 } ≡ agentOnly (headOf r)
+  unfolding headOf lead
+  not-agent-head a b =
+      let start : from solid r ≡ r = sym (drop-upTo solid r) ∙ ap (λ (n : ℕ). drop n r) (lead-none r b) in
+      rw (field-known r, start)
+      (split (begins ":" (from solid (drop (nameLength (fieldAt r)) r))) (λ c. rw c (at-not-agent (valueStart r) a)) (λ c. rw c))

@@ -1,0 +1,77 @@
+-- `fields::near::agent_head` meets its contract. Assumes nothing.
+use Prim.Native.Nat.{ℕ}
+use mathlib.Core.Path.{_≡_, sym, ap, _∙_}
+use mathlib.Core.List.{List}
+use borrow.Author.Tests.{not-true}
+use borrow.Author.Needs.{needs}
+use Rattle.fields.specs.declared.Field.{Field}
+use Rattle.fields.specs.Names.{beginsName}
+use Rattle.fields.specs.Near.{agentOnly}
+use Rattle.fields.proofs.Nears.{near-agent, not-agent-head}
+use Rattle.fields.proofs.near.agent_head.Statement.{statement}
+use Rattle.fields.proofs.near.agent_head.Tie as tie
+
+word-at-requires : tie.Need-word-at-requires
+word-at-requires c κs = search needs
+
+begins-agent-requires : tie.Need-begins-agent-requires
+begins-agent-requires c κs = search needs
+
+near-value-requires : tie.Need-near-value-requires
+near-value-requires c κs = search needs
+
+-- the text, and whether it begins with the agent's name
+module _ (c : tie.After-begins-agent) where
+  abbrev text : List ℕ
+  text = c .before .before .before .before .args .r .now
+
+  told : beginsName Field.Agent text ≡ c .begins-agent .result
+  told = sym (c .begins-agent .ensures)
+
+returns : tie.Need-returns
+returns c =
+    let value = c .before in
+    let agent = value .before in
+    near-agent (text (agent .before)) (value .near-value .result) (told (agent .before) ∙ agent .if2 .taken) (value .near-value .ensures) (c .if3 .taken)
+
+shared-slice-read-is-of : tie.Need-shared-slice-read-is-of
+shared-slice-read-is-of c = search needs
+
+is-of-requires : tie.Need-is-of-requires
+is-of-requires c κs = search needs
+
+no-head-requires : tie.Need-no-head-requires
+no-head-requires c κs = search needs
+
+returns-2 : tie.Need-returns-2
+returns-2 c =
+    let seen = c .before .before in
+    let other = seen .before .before in
+    c .no-head .ensures
+    ∙ not-agent-head (text (other .before)) (told (other .before) ∙ other .if2 .left)
+    (sym (seen .is-of .ensures) ∙ not-true (seen .is-of .result) (c .before .if4 .taken))
+
+head-of-requires : tie.Need-head-of-requires
+head-of-requires c κs = search needs
+
+agent-only-requires : tie.Need-agent-only-requires
+agent-only-requires c κs = search needs
+
+returns-3 : tie.Need-returns-3
+returns-3 c = c .agent-only .ensures ∙ ap agentOnly (c .before .head-of .ensures)
+
+pub agent-head-spec : {M : Type 1} → statement M
+agent-head-spec =
+    tie.close
+    (tie.spec
+    word-at-requires
+    begins-agent-requires
+    near-value-requires
+    returns
+    shared-slice-read-is-of
+    is-of-requires
+    no-head-requires
+    returns-2
+    head-of-requires
+    agent-only-requires
+    returns-3)

@@ -1,0 +1,167 @@
+// The head of a line in a file, told sooner than by `head_of` where the line is written as most are: not indented, the colon right behind the
+// name, and at most one space or tab behind it.
+
+ghost use mathlib.Core.Path.{_≡_};
+ghost use Prim.Native.Nat.{_+_, _≤_};
+ghost use lib.ListN.{length, take, drop};
+ghost use Rattle.protocol.specs.Classes.{classTable};
+ghost use Rattle.words.specs.Words.{octetsOf};
+ghost use Rattle.fields.specs.declared.Field.{Field};
+ghost use Rattle.fields.specs.Fields.{headOf};
+ghost use Rattle.fields.specs.Names.{beginsName, fieldAt};
+ghost use Rattle.fields.specs.Near.{nameWord, foldWord, keptWord, wordBegins, nearValue, agentOnly};
+use crate::Field;
+use crate::Head;
+use protocol::ClassTable;
+use protocol::FIELDS;
+use protocol::Place;
+use protocol::Sort;
+
+// The first eight octets of a field's name, in a word; zeros behind a shorter one.
+fn name_word(field: Field) -> u64
+    ensures { λ r. ⌜ octetsOf 8 r ≡ nameWord field ⌝ }
+{
+    match field {
+        Field::Agent => words::word_at(&FIELDS[0], 0),
+        Field::Allow => words::word_at(&FIELDS[1], 0),
+        Field::Disallow => words::word_at(&FIELDS[2], 0),
+        Field::Other => 0,
+    }
+}
+
+// 32 in the place of each letter of it, and behind a shorter one: with this bit set, a letter is a lower-case one.
+fn fold_word(field: Field) -> u64
+    ensures { λ r. ⌜ octetsOf 8 r ≡ foldWord field ⌝ }
+{
+    match field {
+        Field::Agent => 0x2020_2000_2020_2020,
+        Field::Allow => 0x2020_2020_2020_2020,
+        Field::Disallow => 0x2020_2020_2020_2020,
+        Field::Other => 0x2020_2020_2020_2020,
+    }
+}
+
+// 255 in the place of each octet of it.
+fn kept_word(field: Field) -> u64
+    ensures { λ r. ⌜ octetsOf 8 r ≡ keptWord field ⌝ }
+{
+    match field {
+        Field::Agent => 0xFFFF_FFFF_FFFF_FFFF,
+        Field::Allow => 0xFF_FFFF_FFFF,
+        Field::Disallow => 0xFFFF_FFFF_FFFF_FFFF,
+        Field::Other => 0,
+    }
+}
+
+// A word begins with the name, as far as it goes.
+fn begins_word(w: u64, field: Field) -> bool
+    ensures { λ r. ⌜ r ≡ wordBegins field (octetsOf 8 w) ⌝ }
+{
+    (w | fold_word(field)) & kept_word(field) == name_word(field)
+}
+
+// A text begins with the agent's name: w holds its first eight octets.
+fn begins_agent(classes: &ClassTable, w: u64, s: &[u8]) -> bool
+    requires { ⌜ (now classes ≡ classTable) × (10 ≤ length (now s)) × (octetsOf 8 w ≡ take 8 (now s)) ⌝ }
+    ensures { λ r. ⌜ r ≡ beginsName Field.Agent (now (s .entry)) ⌝ }
+{
+    if !begins_word(w, Field::Agent) {
+        return false;
+    }
+    if !octets::is_same(classes, s[8], FIELDS[0][8]) {
+        return false;
+    }
+    octets::is_same(classes, s[9], FIELDS[0][9])
+}
+
+// The field whose name a text begins with.
+fn field_in(classes: &ClassTable, s: &[u8]) -> Field
+    requires { ⌜ (now classes ≡ classTable) × (10 ≤ length (now s)) ⌝ }
+    ensures { λ r. ⌜ r ≡ fieldAt (now (s .entry)) ⌝ }
+{
+    let w = words::word_at(s, 0);
+    if begins_word(w, Field::Disallow) {
+        return Field::Disallow;
+    }
+    if begins_word(w, Field::Allow) {
+        return Field::Allow;
+    }
+    if begins_agent(classes, w, s) {
+        return Field::Agent;
+    }
+    Field::Other
+}
+
+// Where the value begins, if a colon stands there and at most one space or tab behind it: else 0.
+fn near_value(classes: &ClassTable, r: &[u8], colon: usize) -> usize
+    requires { ⌜ (now classes ≡ classTable) × (colon + 3 ≤ length (now r)) ⌝ }
+    ensures { λ v. ⌜ v ≡ nearValue colon (drop colon (now (r .entry))) ⌝ }
+{
+    if r[colon] != b':' {
+        return 0;
+    }
+    if !octets::is_of(classes, Sort::Blank, r[colon + 1]) {
+        return colon + 1;
+    }
+    if !octets::is_of(classes, Sort::Blank, r[colon + 2]) {
+        return colon + 2;
+    }
+    0
+}
+
+// The head of the line that a text begins with.
+pub fn head_in(classes: &ClassTable, r: &[u8]) -> Head
+    requires { ⌜ now classes ≡ classTable ⌝ }
+    ensures { λ h. ⌜ h ≡ headOf (now (r .entry)) ⌝ }
+{
+    if 13 <= r.len() {
+        let field = field_in(classes, r);
+        if let Field::Other = field {
+            if !octets::is_of(classes, Sort::Blank, r[0]) {
+                return crate::no_head();
+            }
+        } else {
+            let value = near_value(classes, r, crate::name_length(field));
+            if value != 0 {
+                return Head {
+                    field,
+                    value: Place { offset: value },
+                };
+            }
+        }
+    }
+    crate::head_of(classes, r)
+}
+
+// A head of an agent line; any other is as that of a line without a known field.
+fn agent_only(head: Head) -> Head
+    ensures { λ h. ⌜ h ≡ agentOnly head ⌝ }
+{
+    let field = head.field;
+    let Field::Agent = field else {
+        return crate::no_head();
+    };
+    head
+}
+
+// The head of the line that a text begins with, where it is an agent line.
+pub fn agent_head(classes: &ClassTable, r: &[u8]) -> Head
+    requires { ⌜ now classes ≡ classTable ⌝ }
+    ensures { λ h. ⌜ h ≡ agentOnly (headOf (now (r .entry))) ⌝ }
+{
+    if 13 <= r.len() {
+        let w = words::word_at(r, 0);
+        if begins_agent(classes, w, r) {
+            let value = near_value(classes, r, 10);
+            if value != 0 {
+                return Head {
+                    field: Field::Agent,
+                    value: Place { offset: value },
+                };
+            }
+        } else if !octets::is_of(classes, Sort::Blank, r[0]) {
+            return crate::no_head();
+        }
+    }
+    agent_only(crate::head_of(classes, r))
+}
