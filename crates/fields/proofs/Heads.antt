@@ -92,22 +92,10 @@ module _ (t : List ℕ) where
   unfolding fieldAt
   agent-told e = rw (agent-disallow e, agent-allow e, e)
 
-  -- it begins with none of them, by its first octet
+  -- it doesn't begin with the agent's, by its first octet
   pub no-agent : (lowerCase (getD t 0 0) ≡ 117 → ⊥) → beginsName Field.Agent t ≡ false
   unfolding octets lowerCase upper
   no-agent = not-first 117 (octets "ser-agent") t
-
-  no-allow : (lowerCase (getD t 0 0) ≡ 97 → ⊥) → beginsName Field.Allow t ≡ false
-  unfolding octets lowerCase upper
-  no-allow = not-first 97 (octets "llow") t
-
-  no-disallow : (lowerCase (getD t 0 0) ≡ 100 → ⊥) → beginsName Field.Disallow t ≡ false
-  unfolding octets lowerCase upper
-  no-disallow = not-first 100 (octets "isallow") t
-
-  pub field-no : (lowerCase (getD t 0 0) ≡ 100 → ⊥) → (lowerCase (getD t 0 0) ≡ 97 → ⊥) → (lowerCase (getD t 0 0) ≡ 117 → ⊥) → Field.Other ≡ fieldAt t
-  unfolding fieldAt
-  field-no p q s = rw (no-disallow p, no-allow q, no-agent s)
 
 name-fits : (w t : List ℕ) → sameIgnoringCase (take (length w) t) w ≡ true → length w ≤ length t
 name-fits w t h =

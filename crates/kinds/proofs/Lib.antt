@@ -1,5 +1,5 @@
 mod Answering
 mod Fronts
-mod Idle
+pub mod Idle
 mod Kinding
 mod Values

@@ -18,7 +18,7 @@ use Rattle.protocol.specs.Octets.{is, upper, blank, lineEnd, lowerCase}
 use Rattle.protocol.specs.Text.{begins}
 use Rattle.protocol.specs.Lines.{Line, line, numberAfter, placeAfter, lineText, linesFrom}
 use Rattle.protocol.proofs.FrontToBack.{linesBehind, lines-behind, first-line, linesAt}
-use Rattle.lines.specs.Skips.{entryOctet, pairs, opens, closes, endings, agentFront, nextAgent, blocksAt, PassedOver}
+use Rattle.lines.specs.Skips.{agentOctet, entryOctet, pairs, opens, closes, endings, agentFront, nextAgent, blocksAt, PassedOver}
 use Rattle.lines.specs.Spans.{nextAt}
 use Rattle.lines.proofs.Endings.{closing-ends, ends-closed, behind-closed, behind-open}
 use Rattle.lines.proofs.Forward.{next-further}
@@ -34,18 +34,18 @@ or-right : (a b : Bool) → (a || b) ≡ false → b ≡ false
 or-right true b h = absurd (true≢false h)
 or-right false b h = h
 
--- Lines that begin with no octet that an agent or rule line may begin with don't change what is asked.
-abbrev pub Unasked : {X : Type 0} → Bool → (List Line → X) → Type 0
-Unasked rules ask = (n : LineNumber) (p : Place) (c : ℕ) (l : List ℕ) (ls : List Line) → entryOctet rules c ≡ false → ask (line n p (lineText (c ∷ l)) ∷ ls) ≡ ask ls
+-- Lines that begin with an octet that doesn't pass the test don't change what is asked.
+abbrev pub Unasked : {X : Type 0} → (ℕ → Bool) → (List Line → X) → Type 0
+Unasked first ask = (n : LineNumber) (p : Place) (c : ℕ) (l : List ℕ) (ls : List Line) → first c ≡ false → ask (line n p (lineText (c ∷ l)) ∷ ls) ≡ ask ls
 
 -- behind the last octet is none
 none-behind : (n : LineNumber) (p : Place) (c : ℕ) → linesBehind n p (c ∷ []) ≡ []
 unfolding begins linesFrom
 none-behind n p c = split (closes c false) (λ e. behind-closed n p c [] e) (λ e. behind-open n p c [] e)
 
-module _ {X : Type 0} (ask : List Line → X) (rules : Bool) (same : Unasked rules ask) where
+module _ {X : Type 0} (ask : List Line → X) (first : ℕ → Bool) (same : Unasked first ask) where
   -- one quiet octet
-  octet-passed : (n : LineNumber) (p : Place) (c d : ℕ) (l : List ℕ) → opens rules (c, d) ≡ false
+  octet-passed : (n : LineNumber) (p : Place) (c d : ℕ) (l : List ℕ) → opens first (c, d) ≡ false
       → ask (linesBehind n p (c ∷ d ∷ l)) ≡ ask (linesBehind (numberAfter n (oneIf (closes c (is "\n" d)))) (placeAfter p 1) (d ∷ l))
   unfolding begins
   octet-passed n p c d l h =
@@ -53,12 +53,12 @@ module _ {X : Type 0} (ask : List Line → X) (rules : Bool) (same : Unasked rul
       let q = placeAfter p 1 in
       split (closes c (is "\n" d))
       (λ e.
-      let g : entryOctet rules d ≡ false = rw (closing-ends c (is "\n" d) e) at h in
+      let g : first d ≡ false = rw (closing-ends c (is "\n" d) e) at h in
       rw e (ap ask (behind-closed n p c (d ∷ l) e ∙ first-line m q d l) ∙ same m q d l _ g))
       (λ e. let z : n .number + 0 ≡ n .number = omega arith in rw (e, z) (ap ask (behind-open n p c (d ∷ l) e)))
 
   -- many
-  passed : (k : ℕ) (n : LineNumber) (p : Place) (l : List ℕ) → any (opens rules) (take k (pairs l)) ≡ false
+  passed : (k : ℕ) (n : LineNumber) (p : Place) (l : List ℕ) → any (opens first) (take k (pairs l)) ≡ false
       → ask (linesBehind n p l) ≡ ask (linesBehind (numberAfter n (endings (take k (pairs l)))) (placeAfter p k) (drop k l))
   unfolding any total zip zipWith linesFrom
   passed zero n p l h = let q : n .number + 0 ≡ n .number = omega arith in let r : p .offset + 0 ≡ p .offset = omega arith in rw (q, r)
@@ -69,12 +69,12 @@ module _ {X : Type 0} (ask : List Line → X) (rules : Bool) (same : Unasked rul
       let more = endings (take k (pairs (d ∷ l))) in
       let q : n .number + one + more ≡ n .number + (one + more) = omega arith in
       let r : p .offset + 1 + k ≡ p .offset + suc k = omega arith in
-      let rest : Bool = any (opens rules) (take k (pairs (d ∷ l))) in
-      octet-passed n p c d l (or-left (opens rules (c, d)) rest h)
-      ∙ rw (← q, ← r) (passed k (numberAfter n one) (placeAfter p 1) (d ∷ l) (or-right (opens rules (c, d)) rest h))
+      let rest : Bool = any (opens first) (take k (pairs (d ∷ l))) in
+      octet-passed n p c d l (or-left (opens first (c, d)) rest h)
+      ∙ rw (← q, ← r) (passed k (numberAfter n one) (placeAfter p 1) (d ∷ l) (or-right (opens first (c, d)) rest h))
 
 -- The lines behind the one at p are asked as those behind the one at r.
-module _ {X : Type 0} (ask : List Line → X) (same : Unasked true ask) where
+module _ {X : Type 0} (ask : List Line → X) (same : Unasked entryOctet ask) where
   pub past-on : (file : List ℕ) (p r : Position) → PassedOver file p r
       → ask (linesAt file (numberAfter (p .number) 1) (nextAt file (p .place))) ≡ ask (linesAt file (numberAfter (r .number) 1) (nextAt file (r .place)))
   past-on file p r o =
@@ -87,33 +87,33 @@ module _ {X : Type 0} (ask : List Line → X) (same : Unasked true ask) where
       let part : blocks ≡ blocksAt file (p .place) (o .blocks) = ap (take k) (pairs-rest file (p .place .offset)) in
       let there : linesBehind m q (drop k rest) ≡ linesAt file (numberAfter m 1) (nextAt file q)
       = rw (drop-drop k (p .place .offset) file) (lines-behind file m q) in
-      let off : any (opens true) blocks ≡ false = rw part (not-true _ (o .still)) in
-      sym (ap ask (lines-behind file n (p .place))) ∙ rw (o .number, o .place, ← part) (passed ask true same k n (p .place) rest off ∙ ap ask there)
+      let off : any (opens entryOctet) blocks ≡ false = rw part (not-true _ (o .still)) in
+      sym (ap ask (lines-behind file n (p .place))) ∙ rw (o .number, o .place, ← part) (passed ask entryOctet same k n (p .place) rest off ∙ ap ask there)
 
 -- Behind an octet behind which an agent line may begin, a line begins.
-opening-closes : (c d : ℕ) → opens false (c, d) ≡ true → closes c (is "\n" d) ≡ true
-unfolding entryOctet blank lowerCase upper
+opening-closes : (c d : ℕ) → opens agentOctet (c, d) ≡ true → closes c (is "\n" d) ≡ true
+unfolding agentOctet blank lowerCase upper
 opening-closes c d h =
     split (is "\n" d) (λ e. absurd (false≢true (and-right (lineEnd c) _ (rw (eqb-true d 10 e) at h))))
     (λ e. rw e (ends-closed c (and-left (lineEnd c) _ h)))
 
 -- So the lines behind the one at p are asked as those from the next one on that may be an agent line, whatever its number.
-module _ {X : Type 0} (ask : List Line → X) (same : Unasked false ask) where
+module _ {X : Type 0} (ask : List Line → X) (same : Unasked agentOctet ask) where
   agents-behind : (n : LineNumber) (p : Place) (l : List ℕ) → 0 < length l → let k = agentFront (pairs l) + 1 in
       (m : LineNumber) × (ask (linesBehind n p l) ≡ ask (linesFrom m (placeAfter p k) 0 (drop k l)))
   unfolding upTo zip zipWith begins linesFrom
   agents-behind n p [] i = absurd (omega arith)
   agents-behind n p (c ∷ []) i = (n, ap ask (none-behind n p c))
   agents-behind n p (c ∷ d ∷ l) i =
-      split (opens false (c, d))
-      (λ h. (numberAfter n 1, rw (upTo-stop (opens false) (c, d) (pairs (d ∷ l)) h) (ap ask (behind-closed n p c (d ∷ l) (opening-closes c d h)))))
+      split (opens agentOctet (c, d))
+      (λ h. (numberAfter n 1, rw (upTo-stop (opens agentOctet) (c, d) (pairs (d ∷ l)) h) (ap ask (behind-closed n p c (d ∷ l) (opening-closes c d h)))))
       (λ h.
       let w = agentFront (pairs (d ∷ l)) in
       let k = w + 1 in
       let more : suc w + 1 ≡ suc k = omega arith in
       let e : p .offset + 1 + k ≡ p .offset + suc k = omega arith in
       let on = agents-behind (numberAfter n (oneIf (closes c (is "\n" d)))) (placeAfter p 1) (d ∷ l) (omega arith) in
-      (on .0, rw (upTo-on (opens false) (c, d) (pairs (d ∷ l)) h, more, ← e) (octet-passed ask false same n p c d l h ∙ on .1)))
+      (on .0, rw (upTo-on (opens agentOctet) (c, d) (pairs (d ∷ l)) h, more, ← e) (octet-passed ask agentOctet same n p c d l h ∙ on .1)))
 
   pub agents-on : (file : List ℕ) (n : LineNumber) (p : Place) → p .offset < length file
       → (m : LineNumber) × (ask (linesAt file (numberAfter n 1) (nextAt file p)) ≡ ask (linesAt file m (nextAgent file p)))

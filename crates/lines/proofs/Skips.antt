@@ -20,25 +20,20 @@ use Rattle.protocol.specs.declared.Place.{Place}
 use Rattle.protocol.specs.declared.Position.{Position}
 use Rattle.protocol.specs.Octets.{is, upper, blank, lineEnd, lowerCase}
 use Rattle.protocol.specs.Lines.{lineNumber, placeAt, numberAfter, placeAfter}
-use Rattle.lines.specs.Skips.{entryOctet, pairs, opens, quiet, closes, endings, agentFront, blocksAt, PassedOver, PassedFrom}
+use Rattle.lines.specs.Skips.{agentOctet, entryOctet, pairs, opens, quiet, closes, endings, agentFront, blocksAt, PassedOver, PassedFrom}
 use Rattle.lines.proofs.Pairs.{zip-next, pairs-length, pairs-part, any-parts, upTo-within, upTo-over, total-parts}
 
 -- without a branch: a letter with the bit 32 set is the lower-case one
-abbrev entryBits : Bool → ℕ → Bool
-entryBits rules x =
-    eqb (bitOr x 32) 117 || eqb x 32 || eqb x 9 || (rules && (eqb (bitOr x 32) 97 || eqb (bitOr x 32) 100))
-
-pub entry-bits : (rules : Bool) (x : ℕ) → x < 256 → entryBits rules x ≡ entryOctet rules x
-unfolding numbersFrom entryOctet blank lowerCase upper
-entry-bits true = every-octet (entryBits true) (entryOctet true) refl
-entry-bits false = every-octet (entryBits false) (entryOctet false) refl
+pub agent-bits : (x : ℕ) → x < 256 → (eqb (bitOr x 32) 117 || eqb x 32 || eqb x 9) ≡ agentOctet x
+unfolding numbersFrom agentOctet blank lowerCase upper
+agent-bits = every-octet (λ x. eqb (bitOr x 32) 117 || eqb x 32 || eqb x 9) agentOctet refl
 
 -- one turn of a loop over two texts
 module _ (l m : List ℕ) (i : ℕ) (h : i < length l) (k : i < length m) where
-  pub opens-next : (rules : Bool)
-      → any (opens rules) (drop i (zip l m)) ≡ (lineEnd (getD l i 0) && entryOctet rules (getD m i 0)) || any (opens rules) (drop (i + 1) (zip l m))
+  pub opens-next : (first : ℕ → Bool)
+      → any (opens first) (drop i (zip l m)) ≡ (lineEnd (getD l i 0) && first (getD m i 0)) || any (opens first) (drop (i + 1) (zip l m))
   unfolding any
-  opens-next rules = rw (zip-next l m i h k)
+  opens-next first = rw (zip-next l m i h k)
 
   pub endings-next : endings (drop i (zip l m)) ≡ oneIf (closes (getD l i 0) (is "\n" (getD m i 0))) + endings (drop (i + 1) (zip l m))
   unfolding total
@@ -51,38 +46,38 @@ endings-end l i h = rw (drop-of-length-le l h)
 
 -- one turn of a search
 module _ {x : ℕ × ℕ} {l rest : List (ℕ × ℕ)} (e : l ≡ x ∷ rest) where
-  pub front-here : opens false x ≡ true → agentFront l ≡ 0
-  front-here h = rw (e, upTo-stop (opens false) x rest h)
+  pub front-here : opens agentOctet x ≡ true → agentFront l ≡ 0
+  front-here h = rw (e, upTo-stop (opens agentOctet) x rest h)
 
-  pub front-on : opens false x ≡ false → agentFront l ≡ suc (agentFront rest)
-  front-on h = rw (e, upTo-on (opens false) x rest h)
+  pub front-on : opens agentOctet x ≡ false → agentFront l ≡ suc (agentFront rest)
+  front-on h = rw (e, upTo-on (opens agentOctet) x rest h)
 
 -- in a part that is lent, and behind it
 module _ (s : List ℕ) (i k n m : ℕ) (e : n ≡ k) (g : m ≡ k) where
   abbrev lent : List (ℕ × ℕ)
   lent = zip (take n (drop i s)) (take m (drop (i + 1) s))
 
-  pub front-inside : quiet false lent ≡ false → agentFront lent ≡ agentFront (drop i (pairs s))
+  pub front-inside : quiet agentOctet lent ≡ false → agentFront lent ≡ agentFront (drop i (pairs s))
   front-inside h =
       let part = pairs-part s i k n m e g in
-      rw part (upTo-within (opens false) k (drop i (pairs s)) (not-false _ (rw part at h)))
+      rw part (upTo-within (opens agentOctet) k (drop i (pairs s)) (not-false _ (rw part at h)))
 
-  pub front-past : i + k < length s → quiet false lent ≡ true → agentFront (drop i (pairs s)) ≡ k + agentFront (drop (i + k) (pairs s))
+  pub front-past : i + k < length s → quiet agentOctet lent ≡ true → agentFront (drop i (pairs s)) ≡ k + agentFront (drop (i + k) (pairs s))
   front-past f h =
       let rest : List (ℕ × ℕ) = drop i (pairs s) in
       let fits : k ≤ length rest = omega (arith, length-drop i (pairs s), pairs-length s) in
-      rw (← drop-drop k i (pairs s)) (upTo-over (opens false) k rest fits (not-true _ (rw (pairs-part s i k n m e g) at h)))
+      rw (← drop-drop k i (pairs s)) (upTo-over (opens agentOctet) k rest fits (not-true _ (rw (pairs-part s i k n m e g) at h)))
 
 pub front-fits : (s : List ℕ) (i : ℕ) → agentFront (drop i (pairs s)) ≤ length s - 1 - i
-front-fits s i = omega (arith, upTo-fits (opens false) (drop i (pairs s)), length-drop i (pairs s), pairs-length s)
+front-fits s i = omega (arith, upTo-fits (opens agentOctet) (drop i (pairs s)), length-drop i (pairs s), pairs-length s)
 
 -- two parts
 neither : (a b : Bool) → not (a || b) ≡ (not a && not b)
 neither true b = refl
 neither false b = refl
 
-quiet-parts : (l : List (ℕ × ℕ)) (n m : ℕ) → quiet true (take (n + m) l) ≡ (quiet true (take n l) && quiet true (take m (drop n l)))
-quiet-parts l n m = ap not (any-parts (opens true) n m l) ∙ neither (any (opens true) (take n l)) (any (opens true) (take m (drop n l)))
+quiet-parts : (l : List (ℕ × ℕ)) (n m : ℕ) → quiet entryOctet (take (n + m) l) ≡ (quiet entryOctet (take n l) && quiet entryOctet (take m (drop n l)))
+quiet-parts l n m = ap not (any-parts (opens entryOctet) n m l) ∙ neither (any (opens entryOctet) (take n l)) (any (opens entryOctet) (take m (drop n l)))
 
 -- one block more
 module _ (s : List ℕ) (p : Place) (k : ℕ) where
@@ -92,7 +87,7 @@ module _ (s : List ℕ) (p : Place) (k : ℕ) where
   more : 64 * (k + 1) ≡ 64 * k + 64
   more = omega arith
 
-  quiet-more : quiet true (blocksAt s p (k + 1)) ≡ (quiet true (blocksAt s p k) && quiet true (blocksAt s behind 1))
+  quiet-more : quiet entryOctet (blocksAt s p (k + 1)) ≡ (quiet entryOctet (blocksAt s p k) && quiet entryOctet (blocksAt s behind 1))
   quiet-more =
       rw (more, ← drop-drop (64 * k) (p .offset) (pairs s)) (quiet-parts (drop (p .offset) (pairs s)) (64 * k) 64)
 
@@ -109,13 +104,13 @@ pub endings-fit : (n : ℕ) (l : List (ℕ × ℕ)) → endings (take n l) ≤ n
 endings-fit n l = omega (arith, endings-few (take n l), length-take n l)
 
 -- a part of quiet octets is quiet
-quiet-part : (l : List (ℕ × ℕ)) (n k m : ℕ) → k + m ≤ n → quiet true (take n l) ≡ true → quiet true (take m (drop k l)) ≡ true
+quiet-part : (l : List (ℕ × ℕ)) (n k m : ℕ) → k + m ≤ n → quiet entryOctet (take n l) ≡ true → quiet entryOctet (take m (drop k l)) ≡ true
 quiet-part l n k m h e =
     let rest = n - k - m in
     let all : n ≡ k + (m + rest) = omega arith in
-    let front : Bool = quiet true (take k l) in
-    let part : Bool = quiet true (take m (drop k l)) in
-    let back : Bool = quiet true (take rest (drop m (drop k l))) in
+    let front : Bool = quiet entryOctet (take k l) in
+    let part : Bool = quiet entryOctet (take m (drop k l)) in
+    let back : Bool = quiet entryOctet (take rest (drop m (drop k l))) in
     and-left part back (sym (quiet-parts (drop k l) m rest) ∙ and-right front _ (sym (quiet-parts l k (m + rest)) ∙ rw all at e))
 
 module _ (s : List ℕ) (p : Position) where
@@ -132,7 +127,7 @@ module _ (s : List ℕ) (p : Position) where
       }
 
   -- and then one quiet block more
-  pub over-more : (q : Position) → PassedOver s p q → q .place .offset + 65 ≤ length s → quiet true (blocksAt s (q .place) 1) ≡ true
+  pub over-more : (q : Position) → PassedOver s p q → q .place .offset + 65 ≤ length s → quiet entryOctet (blocksAt s (q .place) 1) ≡ true
       → PassedOver s p (record { number = numberAfter (q .number) (endings (blocksAt s (q .place) 1)); place = placeAfter (q .place) 64 })
   over-more q o h e =
       let there : q .place .offset ≡ p .place .offset + 64 * o .blocks = ap (λ (x : Place). x .offset) (o .place) in

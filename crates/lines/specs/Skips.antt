@@ -9,24 +9,29 @@ use Rattle.lists.specs.Lists.{any, upTo, total}
 use Rattle.protocol.specs.declared.Place.{Place}
 use Rattle.protocol.specs.declared.Position.{Position}
 use Rattle.protocol.specs.Octets.{is, blank, lineEnd, lowerCase}
+use Rattle.protocol.specs.Classes.{stop}
 use Rattle.protocol.specs.Lines.{numberAfter, placeAfter}
 use Rattle.lines.specs.declared.skip.Seen.{Seen}
 
--- an agent line may begin with the octet; with rules, an agent or a rule line
-unfoldable pub entryOctet : Bool → ℕ → Bool
-entryOctet rules x = blank x || is "u" (lowerCase x) || (rules && (is "a" (lowerCase x) || is "d" (lowerCase x)))
+-- an agent line may begin with the octet
+unfoldable pub agentOctet : ℕ → Bool
+agentOctet x = blank x || is "u" (lowerCase x)
+
+-- an agent or rule line may begin with the octet: with "#", CR or LF a line is a comment, or blank
+abbrev pub entryOctet : ℕ → Bool
+entryOctet x = not (stop x)
 
 -- the octets of a text but the last, each with the one behind it
 abbrev pub pairs : List ℕ → List (ℕ × ℕ)
 pairs s = zip s (drop 1 s)
 
--- such a line begins between the two
-abbrev pub opens : Bool → ℕ × ℕ → Bool
-opens rules x = lineEnd (x .0) && entryOctet rules (x .1)
+-- a line begins between the two, with an octet that passes the test
+abbrev pub opens : (ℕ → Bool) → ℕ × ℕ → Bool
+opens first x = lineEnd (x .0) && first (x .1)
 
 -- no such line begins behind any of the octets
-abbrev pub quiet : Bool → List (ℕ × ℕ) → Bool
-quiet rules l = not (any (opens rules) l)
+abbrev pub quiet : (ℕ → Bool) → List (ℕ × ℕ) → Bool
+quiet first l = not (any (opens first) l)
 
 -- the octet c is the last of its line and of its ending; lf where an LF follows it
 abbrev pub closes : ℕ → Bool → Bool
@@ -38,11 +43,11 @@ endings l = total (λ (x : ℕ × ℕ). oneIf (closes (x .0) (is "\n" (x .1)))) 
 
 -- both, of some octets
 abbrev pub glanced : List (ℕ × ℕ) → Seen
-glanced l = record { quiet = quiet true l; lines = endings l }
+glanced l = record { quiet = quiet entryOctet l; lines = endings l }
 
 -- the octets in front of the first behind which an agent line may begin: all of them where there is none
 abbrev pub agentFront : List (ℕ × ℕ) → ℕ
-agentFront l = length (upTo (opens false) l)
+agentFront l = length (upTo (opens agentOctet) l)
 
 -- the place of the next line from p on that may be an agent line; the text's end, where there is none and p is in front of it
 abbrev pub nextAgent : List ℕ → Place → Place
@@ -57,11 +62,11 @@ pub record PassedOver (s : List ℕ) (p r : Position) : Type 0 where
   pub blocks : ℕ
   pub place : r .place ≡ placeAfter (p .place) (64 * blocks)
   pub inside : 64 * blocks ≤ length s - p .place .offset - 1
-  pub still : quiet true (blocksAt s (p .place) blocks) ≡ true
+  pub still : quiet entryOctet (blocksAt s (p .place) blocks) ≡ true
   pub number : r .number ≡ numberAfter (p .number) (endings (blocksAt s (p .place) blocks))
 
 -- Nothing more is passed over only where the next block, with the octet behind it, isn't quiet, or there are no 65 octets left. There is one
 -- such r (proofs/Skips: passed-one).
 pub record PassedFrom (s : List ℕ) (p r : Position) : Type 0 where
   pub over : PassedOver s p r
-  pub ended : r .place .offset + 65 ≤ length s → quiet true (blocksAt s (r .place) 1) ≡ false
+  pub ended : r .place .offset + 65 ≤ length s → quiet entryOctet (blocksAt s (r .place) 1) ≡ false

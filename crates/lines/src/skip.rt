@@ -6,19 +6,18 @@ ghost use mathlib.Core.List.{zip};
 ghost use Prim.Native.Nat.{_+_, _≤_, _<_};
 ghost use lib.ListN.{length};
 ghost use Rattle.protocol.specs.Octets.{lineEnd};
-ghost use Rattle.lines.specs.Skips.{entryOctet, pairs, quiet, agentFront, glanced, nextAgent, PassedFrom};
+ghost use Rattle.protocol.specs.Classes.{stop};
+ghost use Rattle.lines.specs.Skips.{agentOctet, pairs, quiet, agentFront, glanced, nextAgent, PassedFrom};
 use protocol::FIELDS;
 use protocol::LineNumber;
 use protocol::Place;
 use protocol::Position;
 
-// An agent line may begin with the octet; with rules, an agent or a rule line. No branch, so that the compiler can look at many octets at a time.
-fn may_begin(x: u8, rules: bool) -> bool
-    ensures { λ r. ⌜ r ≡ entryOctet rules x ⌝ }
+// An agent line may begin with the octet. No branch, so that the compiler can look at many octets at a time.
+fn may_begin(x: u8) -> bool
+    ensures { λ r. ⌜ r ≡ agentOctet x ⌝ }
 {
-    let c = x | 32;
-    ((c == FIELDS[0][0]) | (x == b' ') | (x == b'\t'))
-        | (rules & ((c == FIELDS[1][0]) | (c == FIELDS[2][0])))
+    (x | 32 == FIELDS[0][0]) | (x == b' ') | (x == b'\t')
 }
 
 // A line ends with the octet, or is ended by it and the one behind it.
@@ -28,16 +27,23 @@ fn ends_line(x: u8) -> bool
     (x == b'\r') | (x == b'\n')
 }
 
+// A line that begins with the octet is a comment, or a blank line.
+fn begins_remark(x: u8) -> bool
+    ensures { λ r. ⌜ r ≡ stop x ⌝ }
+{
+    (x == b'#') | ends_line(x)
+}
+
 // No agent line begins behind any of the octets; `behind` holds the octet behind each of them. All are looked at, so that the compiler can look
 // at many at a time, and in two texts, so that it needn't put together one from the other.
 fn is_quiet(b: &[u8], behind: &[u8]) -> bool
     requires { ⌜ length (now behind) ≡ length (now b) ⌝ }
-    ensures { λ r. ⌜ r ≡ quiet false (zip (now (b .entry)) (now (behind .entry))) ⌝ }
+    ensures { λ r. ⌜ r ≡ quiet agentOctet (zip (now (b .entry)) (now (behind .entry))) ⌝ }
 {
     let mut found = false;
     let mut i = 0;
     while i < b.len() {
-        found = found | (ends_line(b[i]) & may_begin(behind[i], false));
+        found = found | (ends_line(b[i]) & may_begin(behind[i]));
         i += 1;
     }
     !found
@@ -45,14 +51,14 @@ fn is_quiet(b: &[u8], behind: &[u8]) -> bool
 
 // The octets of 64 in front of the first behind which an agent line may begin; there is one.
 fn front_agent(b: &[u8], behind: &[u8]) -> usize
-    requires { ⌜ (length (now b) ≡ 64) × (length (now behind) ≡ 64) × (quiet false (zip (now b) (now behind)) ≡ false) ⌝ }
+    requires { ⌜ (length (now b) ≡ 64) × (length (now behind) ≡ 64) × (quiet agentOctet (zip (now b) (now behind)) ≡ false) ⌝ }
     ensures { λ r. ⌜ r ≡ agentFront (zip (now (b .entry)) (now (behind .entry))) ⌝ }
 {
     let mut first = 255u8;
     let mut i = 0u8;
     while i < 64 {
         let at = i as usize;
-        let here = if ends_line(b[at]) & may_begin(behind[at], false) {
+        let here = if ends_line(b[at]) & may_begin(behind[at]) {
             i
         } else {
             255
@@ -73,7 +79,7 @@ fn last_agent(s: &[u8]) -> usize
     let mut i = 0;
     while 1 < s.len() - i {
         if ends_line(s[i]) {
-            if may_begin(s[i + 1], false) {
+            if may_begin(s[i + 1]) {
                 return i + 1;
             }
         }
@@ -106,7 +112,7 @@ pub fn next_agent(s: &[u8], from: Place) -> Place
     Place { offset: found }
 }
 
-// What 64 octets hold: whether an agent or rule line begins behind one of them, and the line endings that they close.
+// What 64 octets hold: whether only comments and blank lines begin behind them, and the line endings that they close.
 struct Seen {
     quiet: bool,
     lines: usize,
@@ -123,7 +129,7 @@ fn glance(b: &[u8], behind: &[u8]) -> Seen
     while i < 64 {
         let x = b[i];
         let y = behind[i];
-        let here = if ends_line(x) & may_begin(y, true) {
+        let here = if ends_line(x) & !begins_remark(y) {
             1u8
         } else {
             0u8
@@ -143,7 +149,7 @@ fn glance(b: &[u8], behind: &[u8]) -> Seen
     }
 }
 
-// Passes over whole blocks of 64 octets, as long as no agent or rule line begins behind one of these, and counts the lines that they close.
+// Passes over whole blocks of 64 octets, as long as only comments and blank lines begin behind these, and counts the lines that they close.
 pub fn pass(s: &[u8], at: Position) -> Position
     requires { ⌜ (at .place .offset ≤ length (now s)) × (at .number .number ≤ at .place .offset + 1) ⌝ }
     ensures { λ r. ⌜ PassedFrom (now (s .entry)) at r ⌝ }

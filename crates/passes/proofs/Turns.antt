@@ -27,7 +27,7 @@ use Rattle.protocol.proofs.FrontToBack.{linesAt, lines-next, lines-end, lines-a
 use Rattle.protocol.proofs.Kind as K
 use Rattle.protocol.proofs.Audience as A
 use Rattle.lines.specs.Spans.{textAt, nextAt}
-use Rattle.lines.specs.Skips.{nextAgent, PassedOver}
+use Rattle.lines.specs.Skips.{agentOctet, nextAgent, PassedOver}
 use Rattle.kinds.specs.Entries.{entryKind}
 use Rattle.lines.proofs.Forward.{next-further, next-mid, text-inside, text-next}
 use Rattle.lines.proofs.Passing.{past-on, past-inside, past-further, past-few, Unasked, agents-on}
@@ -42,7 +42,7 @@ use Rattle.passes.specs.Entries.{heardAs, ruleHeard, gatheredFrom, gathe
 use Rattle.passes.specs.Steps.{linesPast, PassedLine}
 use Rattle.passes.proofs.Gathering.{gathered-all}
 use Rattle.passes.proofs.Groups.{some-line-names}
-use Rattle.passes.proofs.Heads.{isAgent, no-agent-named, first-no-agent, first-idle, idle-role}
+use Rattle.passes.proofs.Heads.{isAgent, no-agent-named, first-no-agent, first-idle}
 use Rattle.passes.proofs.Lines.{entry-end, entry-rule, octets-most, value-end-inside, agent-unread, rule-unread}
 
 -- the lines from a position on
@@ -90,7 +90,7 @@ module _ (file : List ℕ) (p : Position) (h : p .place .offset < length file) (
         entries =
             λ above ruled.
             sym (past-on (entriesFrom above ruled)
-            (λ n q c l ls g. idle-entries above ruled (line n q (lineText (c ∷ l))) ls (idle-role (kindOf (lineText (c ∷ l))) (first-idle c l g)))
+            (λ n q c l ls g. idle-entries above ruled (line n q (lineText (c ∷ l))) ls (first-idle c l g))
             file p r over);
       }
 
@@ -381,7 +381,7 @@ module _ (file crawler : List ℕ) (before : Audience) (p : Position) where
         ask ls =
             unlessNobody (firstOf (any (lineNames file crawler) ls) (any (lineNames file everyone) ls)) (unlessNobody (lineAudience file crawler (p .place)) before)
 
-        unnamed : Unasked false ask
+        unnamed : Unasked agentOctet ask
         unnamed n q c l ls g =
             let k = kindOf (lineText (c ∷ l)) in
             let v = lineValue file q k in

@@ -1,7 +1,7 @@
 -- `lines::skip::front_agent` meets its contract: what is found, or what is left, whichever comes first, is what is sought. Assumes nothing.
 use Prim.Native.Nat.{ℕ, _+_, _-_, _≤_, min}
 use mathlib.Core.Path.{_≡_, sym, ap₂, _∙_}
-use mathlib.Core.Bool.{false, _&&_}
+use mathlib.Core.Bool.{_&&_}
 use mathlib.Core.List.{List, zip}
 use mathlib.Core.Logic.{⊎-elim}
 use native.Mathlib.Omega.{arith}
@@ -9,7 +9,7 @@ use lib.ListN.{length, drop, length-drop}
 use borrow.Author.Tests.{not-false, ltb-true}
 use Rattle.lists.specs.Lists.{any}
 use Rattle.lists.proofs.Scans.{upTo-fits, any-found}
-use Rattle.lines.specs.Skips.{opens, agentFront}
+use Rattle.lines.specs.Skips.{agentOctet, opens, agentFront}
 use Rattle.lines.proofs.Pairs.{zip-length, zip-next}
 use Rattle.lines.proofs.Skips.{front-here, front-on}
 use Rattle.lines.proofs.skip.front_agent.Statement.{statement}
@@ -26,7 +26,7 @@ loop-holds : tie.Need-loop-holds Inv-loop μ-loop
 loop-holds c =
     let a = c .before .before .args in
     let pairs = zip (a .b .now) (a .behind .now) in
-    omega (arith, c .before .before .pre, upTo-fits (opens false) pairs, zip-length (a .b .now) (a .behind .now))
+    omega (arith, c .before .before .pre, upTo-fits (opens agentOctet) pairs, zip-length (a .b .now) (a .behind .now))
 
 cast-at : tie.Need-cast-at Inv-loop μ-loop
 cast-at c = omega arith
@@ -75,14 +75,14 @@ returns c =
     let s = l .before .before .before in
     let a = s .args in
     let pairs : List (ℕ × ℕ) = zip (a .b .now) (a .behind .now) in
-    let found = ltb-true (agentFront pairs) (length pairs) (any-found (opens false) pairs ∙ not-false (any (opens false) pairs) (s .pre .2)) in
+    let found = ltb-true (agentFront pairs) (length pairs) (any-found (opens agentOctet) pairs ∙ not-false (any (opens agentOctet) pairs) (s .pre .2)) in
     omega (
       arith,
       found,
       l .loop .inv .2,
       zip-length (a .b .now) (a .behind .now),
       length-drop (l .loop .i) pairs,
-      upTo-fits (opens false) (drop (l .loop .i) pairs),
+      upTo-fits (opens agentOctet) (drop (l .loop .i) pairs),
     )
 
 pub front-agent-spec : {M : Type 1} → statement M

@@ -12,7 +12,7 @@ use Rattle.lists.specs.Choice.{oneIf}
 use Rattle.lists.specs.Lists.{any}
 use Rattle.lists.proofs.Tests.{any-end}
 use Rattle.protocol.specs.Octets.{is}
-use Rattle.lines.specs.Skips.{opens, closes, endings}
+use Rattle.lines.specs.Skips.{entryOctet, opens, closes, endings}
 use Rattle.lines.proofs.Pairs.{zip-length}
 use Rattle.lines.proofs.Skips.{opens-next, endings-next, endings-end}
 use Rattle.lines.proofs.skip.glance.Statement.{statement}
@@ -21,7 +21,7 @@ use Rattle.lines.proofs.skip.glance.Tie as tie
 abbrev Inv-loop : tie.InvT-loop
 Inv-loop b behind found₀ n₀ i₀ found n i =
     let l = zip b behind in
-    (i ≤ 64) × (n ≤ i) × (n + endings (drop i l) ≡ endings l) × (t : Bool) × (found ≡ oneIf t) × ((t || any (opens true) (drop i l)) ≡ any (opens true) l)
+    (i ≤ 64) × (n ≤ i) × (n + endings (drop i l) ≡ endings l) × (t : Bool) × (found ≡ oneIf t) × ((t || any (opens entryOctet) (drop i l)) ≡ any (opens entryOctet) l)
 
 abbrev μ-loop : tie.MeasureT-loop
 μ-loop b behind found₀ n₀ i₀ found n i = 64 - i
@@ -38,8 +38,8 @@ shared-slice-read-y c = omega arith
 ends-line-requires : tie.Need-ends-line-requires Inv-loop μ-loop
 ends-line-requires c κs = tt
 
-may-begin-requires : tie.Need-may-begin-requires Inv-loop μ-loop
-may-begin-requires c κs = tt
+begins-remark-requires : tie.Need-begins-remark-requires Inv-loop μ-loop
+begins-remark-requires c κs = tt
 
 -- the octet that is looked at, with the one behind it
 module _ (c : tie.At-loop Inv-loop μ-loop) where
@@ -59,10 +59,10 @@ module _ (c : tie.At-loop Inv-loop μ-loop) where
   closing = closes (octets .0) (is "\n" (octets .1))
 
 -- what is found there
-found-here : (c : tie.Joined1 Inv-loop μ-loop) → c .if1 .here ≡ oneIf (opens true (octets (c .before .before .before .before .before .before)))
+found-here : (c : tie.Joined1 Inv-loop μ-loop) → c .if1 .here ≡ oneIf (opens entryOctet (octets (c .before .before .before .before .before .before)))
 found-here c =
     let m = c .before in
-    let told = sym (ap₂ _&&_ (m .before .ends-line .ensures) (m .may-begin .ensures)) in
+    let told = sym (ap₂ _&&_ (m .before .ends-line .ensures) (ap not (m .begins-remark .ensures))) in
     ⊎-elim (λ v. v .1 ∙ sym (ap oneIf (told ∙ v .0 .taken))) (λ v. v .1 ∙ sym (ap oneIf (told ∙ v .0 .left))) (c .if1 .came)
 
 module _ (c : tie.Joined2 Inv-loop μ-loop) where
@@ -96,14 +96,14 @@ loop-again c =
     let t = turn j in
     let inv = t .loop .inv in
     let i = t .loop .i in
-    let rest : Bool = any (opens true) (drop (i + 1) (zip (b t) (behind t))) in (
+    let rest : Bool = any (opens entryOctet) (drop (i + 1) (zip (b t) (behind t))) in (
       omega arith,
       omega (arith, few j, inv .1),
       omega (arith, closed-here j, inv .2, endings-next (b t) (behind t) i (omega arith) (omega arith)),
-      inv .3 || opens true (octets t),
-      ap₂ bitOr (inv .4) (found-here (j .before .before)) ∙ either (inv .3) (opens true (octets t)),
-      or-assoc (inv .3) (opens true (octets t)) rest
-          ∙ ap (λ (x : Bool). inv .3 || x) (sym (opens-next (b t) (behind t) i (omega arith) (omega arith) true))
+      inv .3 || opens entryOctet (octets t),
+      ap₂ bitOr (inv .4) (found-here (j .before .before)) ∙ either (inv .3) (opens entryOctet (octets t)),
+      or-assoc (inv .3) (opens entryOctet (octets t)) rest
+          ∙ ap (λ (x : Bool). inv .3 || x) (sym (opens-next (b t) (behind t) i (omega arith) (omega arith) entryOctet))
           ∙ inv .5,
     )
 
@@ -120,7 +120,7 @@ returns c =
     let inv = t .loop .inv in
     let l = zip (b t) (behind t) in
     let all : length l ≤ t .loop .i = omega (arith, zip-length (b t) (behind t)) in
-    let none = rw (any-end (opens true) l (t .loop .i) all) at (inv .5) in
+    let none = rw (any-end (opens entryOctet) l (t .loop .i) all) at (inv .5) in
     ap₂ (λ (q : Bool) (n : ℕ). record { quiet = q; lines = n })
     (ap (λ (x : ℕ). eqb x 0) (inv .4) ∙ none-found (inv .3) ∙ ap not (sym (or-false (inv .3)) ∙ none))
     (omega (arith, inv .2, endings-end l (t .loop .i) all))
@@ -135,7 +135,7 @@ glance-spec =
     shared-slice-read-x
     shared-slice-read-y
     ends-line-requires
-    may-begin-requires
+    begins-remark-requires
     add-n
     add-i
     loop-less

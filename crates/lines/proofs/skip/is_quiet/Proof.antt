@@ -1,13 +1,13 @@
 -- `lines::skip::is_quiet` meets its contract: what is found, or what is left, gives the whole answer. Assumes nothing.
 use Prim.Native.Nat.{_+_, _-_, _≤_}
 use mathlib.Core.Path.{_≡_, refl, sym, ap, ap₂, _∙_}
-use mathlib.Core.Bool.{Bool, false, _&&_, _||_, not, or-false, or-assoc}
+use mathlib.Core.Bool.{Bool, _&&_, _||_, not, or-false, or-assoc}
 use mathlib.Core.List.{zip}
 use native.Mathlib.Omega.{arith}
 use lib.ListN.{length, drop}
 use Rattle.lists.specs.Lists.{any}
 use Rattle.lists.proofs.Tests.{any-end}
-use Rattle.lines.specs.Skips.{opens}
+use Rattle.lines.specs.Skips.{agentOctet, opens}
 use Rattle.lines.proofs.Pairs.{zip-length}
 use Rattle.lines.proofs.Skips.{opens-next}
 use Rattle.lines.proofs.skip.is_quiet.Statement.{statement}
@@ -15,7 +15,7 @@ use Rattle.lines.proofs.skip.is_quiet.Tie as tie
 
 abbrev Inv-loop : tie.InvT-loop
 Inv-loop b behind found₀ i₀ found i =
-    (i ≤ length b) × ((found || any (opens false) (drop i (zip b behind))) ≡ any (opens false) (zip b behind))
+    (i ≤ length b) × ((found || any (opens agentOctet) (drop i (zip b behind))) ≡ any (opens agentOctet) (zip b behind))
 
 abbrev μ-loop : tie.MeasureT-loop
 μ-loop b behind found₀ i₀ found i = length b - i
@@ -46,8 +46,8 @@ loop-again c =
     let e = c .before .before in
     let l = e .before .before .before in
     let a = l .before .before .before .args in
-    let rest : Bool = any (opens false) (drop (l .loop .i + 1) (zip (a .b .now) (a .behind .now))) in
-    let next = opens-next (a .b .now) (a .behind .now) (l .loop .i) (omega arith) (omega arith) false in (
+    let rest : Bool = any (opens agentOctet) (drop (l .loop .i + 1) (zip (a .b .now) (a .behind .now))) in
+    let next = opens-next (a .b .now) (a .behind .now) (l .loop .i) (omega arith) (omega arith) agentOctet in (
       omega arith,
       or-assoc (l .loop .found) (e .ends-line .result && c .may-begin .result) rest
           ∙ ap (λ (x : Bool). l .loop .found || x) (ap (λ (x : Bool). x || rest) (ap₂ _&&_ (e .ends-line .ensures) (c .may-begin .ensures)) ∙ sym next)
@@ -58,7 +58,7 @@ returns : tie.Need-returns Inv-loop μ-loop
 returns c =
     let l = c .before in
     let a = l .before .before .before .args in
-    let all = any-end (opens false) (zip (a .b .now) (a .behind .now)) (l .loop .i) (rw zip-length (omega arith)) in
+    let all = any-end (opens agentOctet) (zip (a .b .now) (a .behind .now)) (l .loop .i) (rw zip-length (omega arith)) in
     ap not (sym (or-false (l .loop .found)) ∙ rw all at (l .loop .inv .1))
 
 pub is-quiet-spec : {M : Type 1} → statement M

@@ -7,7 +7,7 @@ use mathlib.Core.Logic.{⊎-elim}
 use native.Mathlib.Omega.{arith}
 use lib.ListN.{length, drop, getD}
 use Rattle.lists.proofs.Scans.{scan-none}
-use Rattle.lines.specs.Skips.{entryOctet, pairs, opens, agentFront}
+use Rattle.lines.specs.Skips.{agentOctet, pairs, opens, agentFront}
 use Rattle.lines.proofs.Pairs.{pairs-length, pairs-next}
 use Rattle.lines.proofs.Skips.{front-here, front-on}
 use Rattle.lines.proofs.skip.last_agent.Statement.{statement}
@@ -36,7 +36,7 @@ module _ (c : tie.After-ends-line Inv-loop μ-loop) where
   next : drop (turn .loop .i) (pairs text) ≡ octets ∷ drop (turn .loop .i + 1) (pairs text)
   next = pairs-next text (turn .loop .i) (omega arith)
 
-  on : opens false octets ≡ false → Inv-loop text 0 (turn .loop .i + 1)
+  on : opens agentOctet octets ≡ false → Inv-loop text 0 (turn .loop .i + 1)
   on o = omega (arith, front-on next o, turn .loop .inv .1)
 
 sub-loop : tie.Need-sub-loop Inv-loop μ-loop
@@ -81,14 +81,14 @@ loop-again c =
     let ended = e .ends-line .ensures in
     ⊎-elim
     (λ v. on e (ap₂ _&&_ (sym ended ∙ v .0 .taken) (sym (v .2 .ensures) ∙ v .3 .left)))
-    (λ v. on e (ap (λ (x : Bool). x && entryOctet false (octets e .1)) (sym ended ∙ v .left)))
+    (λ v. on e (ap (λ (x : Bool). x && agentOctet (octets e .1)) (sym ended ∙ v .left)))
     (c .if1 .came)
 
 returns-2 : tie.Need-returns-2 Inv-loop μ-loop
 returns-2 c =
     let l = c .before in
     let s = l .before .before .args .s .now in
-    omega (arith, l .loop .inv .1, pairs-length s, scan-none (opens false) (pairs s) (l .loop .i) (0, 0) (omega (arith, pairs-length s)))
+    omega (arith, l .loop .inv .1, pairs-length s, scan-none (opens agentOctet) (pairs s) (l .loop .i) (0, 0) (omega (arith, pairs-length s)))
 
 pub last-agent-spec : {M : Type 1} → statement M
 last-agent-spec =

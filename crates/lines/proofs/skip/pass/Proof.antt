@@ -9,7 +9,7 @@ use borrow.Author.Tests.{not-true, not-false}
 use Rattle.protocol.specs.declared.Position.{Position}
 use Rattle.protocol.specs.Lines.{lineNumber, placeAt}
 use Rattle.lines.specs.declared.skip.Seen.{Seen}
-use Rattle.lines.specs.Skips.{pairs, quiet, endings, glanced, blocksAt, PassedOver}
+use Rattle.lines.specs.Skips.{entryOctet, pairs, quiet, endings, glanced, blocksAt, PassedOver}
 use Rattle.lines.proofs.Pairs.{part-length, pairs-part}
 use Rattle.lines.proofs.Skips.{over-none, over-more, over-few, endings-fit}
 use Rattle.lines.proofs.skip.pass.Statement.{statement}
@@ -133,7 +133,7 @@ loop-less c = let l = glance c .before .before .before in less (length (text (l 
 loop-again : tie.Need-loop-again Inv-loop μ-loop
 loop-again c =
     let t = turn (glance c) in
-    let off : quiet true (block (glance c)) ≡ true
+    let off : quiet entryOctet (block (glance c)) ≡ true
     = sym (ap (λ (x : Seen). x .quiet) (seen (glance c))) ∙ not-false (glance c .glance .result .quiet) (c .before .if2 .left) in
     rw (counted c) (over-more (text t) (start t .args .at) (here t) (t .loop .inv) (inside (glance c .before .before .before)) off)
 
