@@ -1,13 +1,13 @@
 -- The names of the fields eight octets at a time, and heads that are told from a line's first octets. Assumes nothing.
 use Prim.Native.Nat.{ℕ, _+_, _-_}
-use Prim.Native.Char.{code}
 use mathlib.Core.Bool.{Bool, _&&_}
 use mathlib.Core.List.{List, _++_, map}
+use lib.Bits.{bitOr}
 use lib.Dec.{leb}
 use lib.ListN.{length, take, drop, replicate}
 use Rattle.lists.specs.Choice.{if_then_else_}
-use Rattle.protocol.specs.Octets.{within}
-use Rattle.protocol.specs.Text.{octets, begins, sameIgnoringCase, lead}
+use Rattle.lists.specs.Lists.{same}
+use Rattle.protocol.specs.Text.{octets, begins, lead}
 use Rattle.protocol.specs.Lines.{placeAt}
 use Rattle.fields.specs.declared.Field.{Field}
 use Rattle.fields.specs.declared.Head.{Head}
@@ -24,19 +24,16 @@ eight g left f = map g (nameFront f) ++ replicate (8 - length (nameFront f)) lef
 abbrev pub nameWord : Field → List ℕ
 nameWord = eight (λ x. x) 0
 
--- 32 for a letter: with this bit set, it is a lower-case one
-abbrev pub fold : ℕ → ℕ
-fold x = if within (code "a") (code "z") x then 32 else 0
-
-abbrev pub foldWord : Field → List ℕ
-foldWord = eight fold 32
-
 abbrev pub keptWord : Field → List ℕ
 keptWord = eight (λ x. 255) 0
 
--- eight octets begin with the name, as far as these go, ASCII case ignored
+-- octets with the bit 32 set: with it, a letter is a lower-case one
+abbrev pub folded : List ℕ → List ℕ
+folded = map (λ x. bitOr x 32)
+
+-- eight octets begin with the name, as far as these go
 abbrev pub wordBegins : Field → List ℕ → Bool
-wordBegins f l = sameIgnoringCase (take (length (nameFront f)) l) (nameFront f)
+wordBegins f l = same (take (length (nameFront f)) l) (nameFront f)
 
 -- where the value begins, if a text begins with a colon and at most one space or tab stands behind it: else 0
 abbrev pub nearValue : ℕ → List ℕ → ℕ

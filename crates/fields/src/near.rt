@@ -9,7 +9,7 @@ ghost use Rattle.words.specs.Words.{octetsOf};
 ghost use Rattle.fields.specs.declared.Field.{Field};
 ghost use Rattle.fields.specs.Fields.{headOf};
 ghost use Rattle.fields.specs.Names.{beginsName, fieldAt};
-ghost use Rattle.fields.specs.Near.{nameWord, foldWord, keptWord, wordBegins, nearValue, agentOnly};
+ghost use Rattle.fields.specs.Near.{nameWord, keptWord, folded, wordBegins, nearValue, agentOnly};
 use crate::Field;
 use crate::Head;
 use protocol::ClassTable;
@@ -29,18 +29,6 @@ fn name_word(field: Field) -> u64
     }
 }
 
-// 32 in the place of each letter of it, and behind a shorter one: with this bit set, a letter is a lower-case one.
-fn fold_word(field: Field) -> u64
-    ensures { λ r. ⌜ octetsOf 8 r ≡ foldWord field ⌝ }
-{
-    match field {
-        Field::Agent => 0x2020_2000_2020_2020,
-        Field::Allow => 0x2020_2020_2020_2020,
-        Field::Disallow => 0x2020_2020_2020_2020,
-        Field::Other => 0x2020_2020_2020_2020,
-    }
-}
-
 // 255 in the place of each octet of it.
 fn kept_word(field: Field) -> u64
     ensures { λ r. ⌜ octetsOf 8 r ≡ keptWord field ⌝ }
@@ -53,19 +41,31 @@ fn kept_word(field: Field) -> u64
     }
 }
 
+// A text's first eight octets, each with the bit 32 set: with it, a letter is a lower-case one. It is set in all of them, once for all names,
+// so that the compiler reads the eight octets at once.
+fn folded_word(s: &[u8]) -> u64
+    requires { ⌜ 8 ≤ length (now s) ⌝ }
+    ensures { λ r. ⌜ octetsOf 8 r ≡ folded (take 8 (now (s .entry))) ⌝ }
+{
+    words::word_at(s, 0) | 0x2020_2020_2020_2020
+}
+
 // A word begins with the name, as far as it goes.
 fn begins_word(w: u64, field: Field) -> bool
     ensures { λ r. ⌜ r ≡ wordBegins field (octetsOf 8 w) ⌝ }
 {
-    (w | fold_word(field)) & kept_word(field) == name_word(field)
+    w & kept_word(field) == name_word(field)
 }
 
-// A text begins with the agent's name: w holds its first eight octets.
+// A text begins with the agent's name: w holds its first eight octets, folded. Its hyphen is asked for by itself, since CR is folded to one too.
 fn begins_agent(classes: &ClassTable, w: u64, s: &[u8]) -> bool
-    requires { ⌜ (now classes ≡ classTable) × (10 ≤ length (now s)) × (octetsOf 8 w ≡ take 8 (now s)) ⌝ }
+    requires { ⌜ (now classes ≡ classTable) × (10 ≤ length (now s)) × (octetsOf 8 w ≡ folded (take 8 (now s))) ⌝ }
     ensures { λ r. ⌜ r ≡ beginsName Field.Agent (now (s .entry)) ⌝ }
 {
     if !begins_word(w, Field::Agent) {
+        return false;
+    }
+    if s[4] != FIELDS[0][4] {
         return false;
     }
     if !octets::is_same(classes, s[8], FIELDS[0][8]) {
@@ -79,7 +79,7 @@ fn field_in(classes: &ClassTable, s: &[u8]) -> Field
     requires { ⌜ (now classes ≡ classTable) × (10 ≤ length (now s)) ⌝ }
     ensures { λ r. ⌜ r ≡ fieldAt (now (s .entry)) ⌝ }
 {
-    let w = words::word_at(s, 0);
+    let w = folded_word(s);
     if begins_word(w, Field::Disallow) {
         return Field::Disallow;
     }
@@ -150,7 +150,7 @@ pub fn agent_head(classes: &ClassTable, r: &[u8]) -> Head
     ensures { λ h. ⌜ h ≡ agentOnly (headOf (now (r .entry))) ⌝ }
 {
     if 13 <= r.len() {
-        let w = words::word_at(r, 0);
+        let w = folded_word(r);
         if begins_agent(classes, w, r) {
             let value = near_value(classes, r, 10);
             if value != 0 {

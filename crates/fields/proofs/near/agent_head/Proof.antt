@@ -11,8 +11,8 @@ use Rattle.fields.proofs.Nears.{near-agent, not-agent-head}
 use Rattle.fields.proofs.near.agent_head.Statement.{statement}
 use Rattle.fields.proofs.near.agent_head.Tie as tie
 
-word-at-requires : tie.Need-word-at-requires
-word-at-requires c κs = search needs
+folded-word-requires : tie.Need-folded-word-requires
+folded-word-requires c κs = search needs
 
 begins-agent-requires : tie.Need-begins-agent-requires
 begins-agent-requires c κs = search needs
@@ -64,7 +64,7 @@ pub agent-head-spec : {M : Type 1} → statement M
 agent-head-spec =
     tie.close
     (tie.spec
-    word-at-requires
+    folded-word-requires
     begins-agent-requires
     near-value-requires
     returns
