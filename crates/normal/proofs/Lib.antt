@@ -1,4 +1,4 @@
 pub mod Cuts
 pub mod EndMarks
 pub mod Literal
-mod Steps
+pub mod Steps

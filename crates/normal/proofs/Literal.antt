@@ -27,7 +27,7 @@ module _ (x : ℕ) (h : literal x ≡ true) where
   pub literal-not : (c : Char) → code c < 0x2B → is c x ≡ false
   literal-not c l = ne-eqb x (code c) (λ e. omega (arith, literal-above))
 
-  literal-kept : (stars : Bool) → isEncoded stars x ≡ false
+  pub literal-kept : (stars : Bool) → isEncoded stars x ≡ false
   unfolding special
   literal-kept stars =
       rw (literal-not "%" (omega arith), literal-not "$" (omega arith), literal-not "*" (omega arith), lt-leb 0x7F x (omega (arith, leb-true x 0x7E (and-right (leb 0x2B x) (leb x 0x7E) h))))

@@ -27,19 +27,13 @@ pub enum Written {
     NoRoom,
 }
 
-// The octets in front of the first that isn't literal, many looked at at a time.
-fn literal_front(s: &[u8]) -> usize
+// The octets in front of the first that isn't literal, many looked at at a time. Normalising leaves literal ones as they are, and they are no star
+// and no end mark in a pattern.
+pub fn literal_front(s: &[u8]) -> usize
     ensures { λ r. ⌜ r ≡ length (upTo notLiteral (now (s .entry))) ⌝ }
 {
     let end = text::seek(s, Place { offset: 0 }, 0x2B, 0x7E, false);
     end.offset
-}
-
-// Only octets that normalising leaves as they are, and that are no star and no end mark in a pattern.
-pub fn is_literal(s: &[u8]) -> bool
-    ensures { λ r. ⌜ r ≡ all literal (now (s .entry)) ⌝ }
-{
-    literal_front(s) == s.len()
 }
 
 // Normalising may change a path: some octet doesn't stay as it is. Those behind the literal front are looked at one by one.

@@ -1,15 +1,17 @@
 -- The walk of a raw pattern: cut at its stars first, each run normalised by itself into the lent scratch. Assumes nothing.
 use Prim.Native.Nat.{ℕ}
-use mathlib.Core.Bool.{Bool}
+use mathlib.Core.Bool.{Bool, _||_}
 use mathlib.Core.List.{List, [], _∷_, map}
+use lib.Dec.{ltb}
+use lib.ListN.{length}
 use Rattle.lists.specs.Choice.{if_then_else_}
-use Rattle.lists.specs.Lists.{all}
+use Rattle.lists.specs.Lists.{all, upTo}
 use Rattle.protocol.specs.declared.Walked.{Walked}
 use Rattle.protocol.specs.Text.{ends}
 use Rattle.protocol.specs.Pattern.{rawText, firstRun, laterRuns}
 use Rattle.protocol.specs.Walk.{first, next, isLast, walkRuns}
 use Rattle.normal.specs.Runs.{normalRun, runScratch}
-use Rattle.normal.specs.Literal.{literal}
+use Rattle.normal.specs.Literal.{literal, notLiteral}
 
 -- the later runs of a raw text, each normalised
 abbrev pub runsOf : List ℕ → List (List ℕ)
@@ -36,6 +38,7 @@ scratchText endMark text path scratch =
 unfoldable pub walkScratch : List ℕ → List ℕ → List ℕ → List ℕ
 walkScratch pattern path scratch = scratchText (ends "$" pattern) (rawText pattern) path scratch
 
--- the scratch after a raw pattern is weighed: untouched where its octets are literal
+-- the scratch after a raw pattern is weighed: untouched where the literal octets in front are more than the path's, or are all there are
 unfoldable pub weighScratch : List ℕ → List ℕ → List ℕ → List ℕ
-weighScratch pattern path scratch = if all literal pattern then scratch else walkScratch pattern path scratch
+weighScratch pattern path scratch =
+    if ltb (length path) (length (upTo notLiteral pattern)) || all literal pattern then scratch else walkScratch pattern path scratch

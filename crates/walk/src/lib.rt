@@ -119,13 +119,18 @@ fn weigh_literal(pattern: &[u8], path: &[u8]) -> Weighed
     weighed_walk(w, pattern.len())
 }
 
-// A pattern's weight and count, out of one walk.
+// A pattern's weight and count, out of one walk. The literal octets in front are part of the first run: where they are more than the path's, it
+// fails at no cost.
 pub fn weigh(pattern: &[u8], path: &[u8], scratch: &mut [u8]) -> Weighed
     requires { ⌜ (length (now path) ≤ length (now scratch)) × (weight (shapeOf (now pattern)) < 2 ^ 64) × CountFits (now pattern) (now path) ⌝ }
     ensures { λ r. ⌜ r ≡ weighed (now (pattern .entry)) (now (path .entry)) ⌝ }
     ensures { λ _. ⌜ now (scratch .exit) ≡ weighScratch (now (pattern .entry)) (now (path .entry)) (now (scratch .entry)) ⌝ }
 {
-    if normal::is_literal(pattern) {
+    let front = normal::literal_front(pattern);
+    if path.len() < front {
+        return weighed_walk(runs::fail(0), 0);
+    }
+    if front == pattern.len() {
         return weigh_literal(pattern, path);
     }
     let w = walk_pattern(pattern, path, scratch);
