@@ -1,5 +1,5 @@
 -- The value that a text begins with, by its ordinary octets and what stands behind them. Assumes nothing.
-use Prim.Native.Nat.{ℕ}
+use Prim.Native.Nat.{ℕ, _+_}
 use mathlib.Core.Path.{_≡_, refl, sym, ap, _∙_}
 use mathlib.Core.Bool.{Bool, true, false, not}
 use mathlib.Core.List.{List, [], _∷_}
@@ -72,6 +72,17 @@ value-ordinary (x ∷ l) h =
     rw (past-stop x (omega (arith, low)), e, solid-stays x (trimEnd (upTo stop l)) (past-blank x (omega (arith, low))))
     (ap (λ (m : List ℕ). x ∷ m) (value-ordinary l (rw e at h))))
     (λ e. rw e (sym (empty-known (trimEnd (upTo stop (x ∷ l))) (value-empty (x ∷ l) ∙ rw e at h))))
+
+-- Otherwise the value goes on behind them: no stop is among them, and no space or tab.
+pub value-behind : (l : List ℕ) → length (trimEnd (upTo stop l)) ≡ length (upTo unusual l) + length (trimEnd (upTo stop (from unusual l)))
+unfolding upTo from trimEnd
+value-behind [] = omega arith
+value-behind (x ∷ l) =
+    split (ordinary x)
+    (λ e.
+    let low = above x e in
+    rw (past-stop x (omega (arith, low)), e, solid-stays x (trimEnd (upTo stop l)) (past-blank x (omega (arith, low)))) (omega (arith, value-behind l)))
+    (λ e. rw e (omega arith))
 
 -- ordinary octets are all in front of the first unusual one
 all-front : (v : List ℕ) → all ordinary v ≡ true → upTo unusual v ≡ v

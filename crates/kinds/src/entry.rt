@@ -36,7 +36,8 @@ fn ordinary_words(s: &[u8]) -> usize
     i + readable::ordinary_front(&s[i..])
 }
 
-// The value that a text begins with. Where spaces and tabs and then a stop stand behind the ordinary octets, these are the value.
+// The value that a text begins with. Where spaces and tabs and then a stop stand behind the ordinary octets, these are the value; otherwise it goes
+// on behind them, and they are not looked at again.
 fn value_in(classes: &ClassTable, s: &[u8]) -> Value
     requires { ⌜ now classes ≡ classTable ⌝ }
     ensures { λ r. ⌜ r ≡ valueTold (now (s .entry)) ⌝ }
@@ -55,8 +56,9 @@ fn value_in(classes: &ClassTable, s: &[u8]) -> Value
             ordinary: true,
         };
     }
+    let all = octets + crate::line::value_length(classes, &s[octets..]);
     Value {
-        octets: crate::line::value_length(classes, s),
+        octets: all,
         ordinary: false,
     }
 }

@@ -1,7 +1,7 @@
 -- `kinds::entry::value_in` meets its contract. Assumes nothing.
 use Prim.Native.Nat.{ℕ, _+_, _≤_}
 use mathlib.Core.Path.{_≡_, sym, ap, _∙_}
-use mathlib.Core.Bool.{Bool, true}
+use mathlib.Core.Bool.{Bool, true, false}
 use mathlib.Core.List.{List}
 use native.Mathlib.Omega.{arith}
 use lib.ListN.{length, drop, length-drop}
@@ -9,13 +9,15 @@ use lib.Seq.{drop-drop}
 use borrow.Author.Needs.{needs}
 use Rattle.lists.specs.Lists.{upTo, from}
 use Rattle.lists.proofs.Scans.{rest-of, drop-upTo, upTo-fits}
-use Rattle.protocol.specs.Text.{solid, lead}
+use Rattle.protocol.specs.Text.{solid, lead, trimEnd}
+use Rattle.protocol.specs.Classes.{stop}
 use Rattle.readable.specs.Due.{unusual}
 use Rattle.fields.specs.Fields.{ended}
 use Rattle.text.proofs.Trims.{trim-fits}
 use Rattle.kinds.specs.declared.entry.Value.{Value}
 use Rattle.kinds.specs.Entries.{valueTold}
-use Rattle.kinds.proofs.Values.{ended-solid, ordinary-told, value-ordinary}
+use Rattle.kinds.proofs.Fronts.{value-fits}
+use Rattle.kinds.proofs.Values.{ended-solid, ordinary-told, value-ordinary, value-behind}
 use Rattle.kinds.proofs.entry.value_in.Statement.{statement}
 use Rattle.kinds.proofs.entry.value_in.Tie as tie
 
@@ -99,13 +101,41 @@ returns-2 c =
     rw (ordinary-told (text w), whole)
     (ap (λ (n : ℕ). record { octets = n; ordinary = true }) (w .ordinary-words .ensures ∙ ap length (value-ordinary (text w) whole)))
 
+sub-value-length : tie.Need-sub-value-length
+sub-value-length c = front-in (seen (led (c .before)))
+
+part-value-length-start : tie.Need-part-value-length-start
+part-value-length-start c = front-in (seen (led (c .before)))
+
+part-value-length-end : tie.Need-part-value-length-end
+part-value-length-end c = search needs
+
 value-length-requires : tie.Need-value-length-requires
 value-length-requires c κs = search needs
 
+-- the value goes on behind them
+module _ (c : tie.After-value-length) where
+  abbrev last : tie.After-ends-at2
+  last = c .before .before .before
+
+  abbrev w : tie.After-ordinary-words
+  w = seen (led last)
+
+  sum : front w + c .value-length .result ≡ length (trimEnd (upTo stop (text w)))
+  sum =
+      let rest : c .value-length .result ≡ length (trimEnd (upTo stop (from unusual (text w)))) =
+      c .value-length .ensures ∙ ap (λ (l : List ℕ). length (trimEnd (upTo stop l))) (rest-of (front w) (text w) ∙ rest-known w)
+      in
+      omega (arith, rest, w .ordinary-words .ensures, value-behind (text w))
+
+add-all : tie.Need-add-all
+add-all c = omega (arith, sum c, value-fits (text (w c)))
+
 returns-3 : tie.Need-returns-3
 returns-3 c =
-    let e = c .before .before in
-    rw (ordinary-told (text (seen (led e))), told e ∙ c .before .if2 .left, c .value-length .ensures)
+    let e = last c in
+    rw (ordinary-told (text (w c)), told e ∙ c .before .before .if2 .left)
+    (ap (λ (n : ℕ). record { octets = n; ordinary = false }) (sum c))
 
 pub value-in-spec : {M : Type 1} → statement M
 value-in-spec =
@@ -121,5 +151,9 @@ value-in-spec =
     add-end
     ends-at-requires-2
     returns-2
+    sub-value-length
+    part-value-length-start
+    part-value-length-end
     value-length-requires
+    add-all
     returns-3)
