@@ -91,8 +91,8 @@ module _ (r : List ℕ) where
   whole f k = k ∙ ap fieldAt (sym (rest-of 0 r))
 
   -- no field that is known
-  pub near-other : (f : Field) → f ≡ fieldAt r → f ≡ Field.Other → blank (getD r 0 0) ≡ false → record { field = Field.Other; value = placeAt 0 } ≡ headOf r
-  near-other f k o b = head-other r 0 f (sym (lead-none r b)) (whole f k) o
+  pub near-other : (f : Field) → f ≡ fieldAt r → f ≡ Field.Other → lead r ≡ 0 → record { field = Field.Other; value = placeAt 0 } ≡ headOf r
+  near-other f k o e = head-other r 0 f (sym e) (whole f k) o
 
   pub near-head : (f : Field) (k v : ℕ) → f ≡ fieldAt r → Known f → k ≡ nameLength f → v ≡ nearValue k (drop k r) → (v ≡ 0 → ⊥)
       → record { field = f; value = placeAt v } ≡ headOf r

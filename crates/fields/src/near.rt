@@ -109,7 +109,8 @@ fn near_value(classes: &ClassTable, r: &[u8], colon: usize) -> usize
     0
 }
 
-// The head of the line that a text begins with.
+// The head of the line that a text begins with. Its first octet isn't read by itself: the compiler would then put the word together from octets,
+// at each line.
 pub fn head_in(classes: &ClassTable, r: &[u8]) -> Head
     requires { ⌜ now classes ≡ classTable ⌝ }
     ensures { λ h. ⌜ h ≡ headOf (now (r .entry)) ⌝ }
@@ -117,7 +118,7 @@ pub fn head_in(classes: &ClassTable, r: &[u8]) -> Head
     if 13 <= r.len() {
         let field = field_in(classes, r);
         if let Field::Other = field {
-            if !octets::is_of(classes, Sort::Blank, r[0]) {
+            if text::lead(classes, r) == 0 {
                 return crate::no_head();
             }
         } else {

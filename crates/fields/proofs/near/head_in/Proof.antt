@@ -3,7 +3,6 @@ use Prim.Native.Nat.{ℕ}
 use mathlib.Core.Path.{sym, _∙_}
 use mathlib.Core.List.{List}
 use native.Mathlib.Omega.{arith}
-use borrow.Author.Tests.{not-true}
 use borrow.Author.Needs.{needs}
 use Rattle.fields.specs.declared.Field.{Field}
 use Rattle.fields.proofs.Nears.{near-other, near-head}
@@ -17,11 +16,8 @@ field-in-requires c κs = search needs
 enum-told : tie.Need-enum-told
 enum-told c = search needs
 
-shared-slice-read-is-of : tie.Need-shared-slice-read-is-of
-shared-slice-read-is-of c = search needs
-
-is-of-requires : tie.Need-is-of-requires
-is-of-requires c κs = search needs
+lead-requires : tie.Need-lead-requires
+lead-requires c κs = search needs
 
 no-head-requires : tie.Need-no-head-requires
 no-head-requires c κs = search needs
@@ -40,11 +36,11 @@ module _ (c : tie.After-field-in) where
 returns : tie.Need-returns
 returns c =
     let seen = c .before .before in
-    let other = seen .before .before in
+    let other = seen .before in
     let f = other .before .before in
     c .no-head .ensures
     ∙ near-other (text f) (field f) (f .field-in .ensures) (other .enum-told .given .1)
-    (sym (seen .is-of .ensures) ∙ not-true (seen .is-of .result) (c .before .if2 .taken))
+    (sym (seen .lead .ensures) ∙ c .before .if2 .taken)
 
 name-length-requires : tie.Need-name-length-requires
 name-length-requires c κs = search needs
@@ -73,8 +69,7 @@ head-in-spec =
     (tie.spec
     field-in-requires
     enum-told
-    shared-slice-read-is-of
-    is-of-requires
+    lead-requires
     no-head-requires
     returns
     name-length-requires
