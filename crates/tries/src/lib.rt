@@ -57,7 +57,7 @@ fn try_four(first: u8, four: &[u8], before: usize) -> Tried
     compare(first, four[3], v.count)
 }
 
-// As `try_first`, one place a turn: for the fewer than four that are left.
+// As `try_first`, one place a turn: for the fewer than eight that are left.
 fn try_each(first: u8, places: &[u8], before: usize) -> Tried
     requires { ⌜ triedFirst first (now places) before .count < 2 ^ 64 ⌝ }
     ensures { λ r. ⌜ r ≡ triedFirst first (now (places .entry)) before ⌝ }
@@ -78,21 +78,33 @@ fn try_each(first: u8, places: &[u8], before: usize) -> Tried
     }
 }
 
+// As `try_first`, for eight places.
+fn try_eight(first: u8, eight: &[u8], before: usize) -> Tried
+    requires { ⌜ (length (now eight) ≡ 8) × (triedFirst first (now eight) before .count < 2 ^ 64) ⌝ }
+    ensures { λ r. ⌜ r ≡ triedFirst first (now (eight .entry)) before ⌝ }
+{
+    let t = try_four(first, &eight[..4], before);
+    if t.stood {
+        return t;
+    }
+    try_four(first, &eight[4..], t.count)
+}
+
 // Compares a run's first octet with those of the places, up to the first that is equal: elsewhere a try fails at that one pair.
-// Four places a turn, since a turn costs more than a pair.
+// Eight places a turn, since a turn costs more than a pair.
 pub fn try_first(first: u8, places: &[u8], before: usize) -> Tried
     requires { ⌜ triedFirst first (now places) before .count < 2 ^ 64 ⌝ }
     ensures { λ r. ⌜ r ≡ triedFirst first (now (places .entry)) before ⌝ }
 {
     let mut count = before;
     let mut i = 0;
-    while 4 <= places.len() - i {
-        let t = try_four(first, &places[i..i + 4], count);
+    while 8 <= places.len() - i {
+        let t = try_eight(first, &places[i..i + 8], count);
         if t.stood {
             return t;
         }
         count = t.count;
-        i += 4;
+        i += 8;
     }
     try_each(first, &places[i..], count)
 }

@@ -27,35 +27,35 @@ entry c = c .before .before
 sub-loop : tie.Need-sub-loop Inv-loop μ-loop
 sub-loop c = omega arith
 
-add-try-four : tie.Need-add-try-four Inv-loop μ-loop
-add-try-four c = omega arith
+add-try-eight : tie.Need-add-try-eight Inv-loop μ-loop
+add-try-eight c = omega arith
 
-sub-try-four : tie.Need-sub-try-four Inv-loop μ-loop
-sub-try-four c = omega arith
+sub-try-eight : tie.Need-sub-try-eight Inv-loop μ-loop
+sub-try-eight c = omega arith
 
-part-try-four-start : tie.Need-part-try-four-start Inv-loop μ-loop
-part-try-four-start c = omega arith
+part-try-eight-start : tie.Need-part-try-eight-start Inv-loop μ-loop
+part-try-eight-start c = omega arith
 
-part-try-four-end : tie.Need-part-try-four-end Inv-loop μ-loop
-part-try-four-end c = omega arith
+part-try-eight-end : tie.Need-part-try-eight-end Inv-loop μ-loop
+part-try-eight-end c = omega arith
 
-try-four-requires : tie.Need-try-four-requires Inv-loop μ-loop
-try-four-requires c κs =
+try-eight-requires : tie.Need-try-eight-requires Inv-loop μ-loop
+try-eight-requires c κs =
     let s = c .before .before in
     let a = entry s .args in
     let i = s .loop .i in
     let d : length (drop i (a .places .now)) ≡ length (a .places .now) - i = length-drop i (a .places .now) in (
-      length-take-le (i + 4 - i) (drop i (a .places .now)) (omega (arith, d)) ∙ omega arith,
-      omega (arith, firsts-fewer (a .first) (a .places .now) i (i + 4 - i) (s .loop .count) _ refl, ap (λ (x : Tried). x .count) (s .loop .inv .1)),
+      length-take-le (i + 8 - i) (drop i (a .places .now)) (omega (arith, d)) ∙ omega arith,
+      omega (arith, firsts-fewer (a .first) (a .places .now) i (i + 8 - i) (s .loop .count) _ refl, ap (λ (x : Tried). x .count) (s .loop .inv .1)),
     )
 
 returns : tie.Need-returns Inv-loop μ-loop
 returns c =
-    let q = c .before .try-four in
+    let q = c .before .try-eight in
     let s = c .before .before .before .before in
     let a = entry s .args in
     let i = s .loop .i in
-    firsts-within (a .first) (a .places .now) i (i + 4 - i) (s .loop .count) (q .result) (q .ensures) (c .if1 .taken) ∙ s .loop .inv .1
+    firsts-within (a .first) (a .places .now) i (i + 8 - i) (s .loop .count) (q .result) (q .ensures) (c .if1 .taken) ∙ s .loop .inv .1
 
 add-i : tie.Need-add-i Inv-loop μ-loop
 add-i c = omega arith
@@ -65,13 +65,13 @@ loop-less c = omega arith
 
 loop-again : tie.Need-loop-again Inv-loop μ-loop
 loop-again c =
-    let q = c .before .try-four in
+    let q = c .before .try-eight in
     let s = c .before .before .before .before in
     let a = entry s .args in
     let i = s .loop .i in
-    let k : i + (i + 4 - i) ≡ i + 4 = omega arith in (
+    let k : i + (i + 8 - i) ≡ i + 8 = omega arith in (
       omega arith,
-      sym (rw k at (firsts-behind (a .first) (a .places .now) i (i + 4 - i) (s .loop .count) (q .result) (q .ensures) (c .if1 .left))) ∙ s .loop .inv .1,
+      sym (rw k at (firsts-behind (a .first) (a .places .now) i (i + 8 - i) (s .loop .count) (q .result) (q .ensures) (c .if1 .left))) ∙ s .loop .inv .1,
     )
 
 sub-try-each : tie.Need-sub-try-each Inv-loop μ-loop
@@ -103,11 +103,11 @@ try-first-spec =
     μ-loop
     loop-holds
     sub-loop
-    add-try-four
-    sub-try-four
-    part-try-four-start
-    part-try-four-end
-    try-four-requires
+    add-try-eight
+    sub-try-eight
+    part-try-eight-start
+    part-try-eight-end
+    try-eight-requires
     returns
     add-i
     loop-less
