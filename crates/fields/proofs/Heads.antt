@@ -30,10 +30,17 @@ use Rattle.protocol.specs.Classes.{stop}
 use Rattle.fields.specs.Fields.{fieldOf, sideOf, valueStart, headAt, headOf, valueAt}
 use Rattle.fields.specs.Names.{nameOf, nameLength, beginsName, fieldAt}
 use Rattle.fields.proofs.Field as F
-use Rattle.lists.proofs.Cuts.{upTo-first, upTo-past}
+use Rattle.lists.proofs.Cuts.{upTo-either, upTo-first, upTo-past}
 use Rattle.fields.proofs.Naming.{begun, begun-place, begun-told, not-first, one-name}
-use Rattle.fields.proofs.Reading.{kind-idle, kind-colon, start-inside}
+use Rattle.fields.proofs.Reading.{kind-idle, kind-colon, start-inside, value-within}
 use Rattle.fields.proofs.Sorts.{colon-solid, plain}
+
+-- no field that is known
+abbrev pub isOther : Field → Bool
+isOther Field.Agent = false
+isOther Field.Allow = false
+isOther Field.Disallow = false
+isOther Field.Other = true
 
 -- the first of the three that is so
 abbrev found : Bool → Bool → Bool → Field
@@ -319,6 +326,22 @@ module _ (r : List ℕ) where
         go Field.Allow k = k
         go Field.Disallow k = k
         go Field.Other k = omega arith
+
+    -- That value ends inside the line.
+    pub head-within : (h .field ≡ Field.Other → ⊥) → h .value .offset + length (valueAt (h .value) r) ≤ length (lineText r)
+    unfolding headOf stop
+    head-within k =
+        split (any (is ":") (upTo stop r))
+        (λ d.
+        let known : h .value ≡ valueStart r = known-value (fieldOf (kindOf (lineText r))) (valueStart r) (ap (λ (g : Head). g .value) e) (λ o. k (head-field ∙ o)) in
+        rw known (omega (arith, value-within r d, ap length (upTo-either (is "#") lineEnd r), upTo-fits (is "#") (lineText r))))
+        (λ d. absurd (k (head-field ∙ no-colon r d)))
+      where
+        known-value : (f : Field) (p : Place) {q : Place} → q ≡ headAt f p .value → (f ≡ Field.Other → ⊥) → q ≡ p
+        known-value Field.Agent p e k = e
+        known-value Field.Allow p e k = e
+        known-value Field.Disallow p e k = e
+        known-value Field.Other p e k = absurd (k refl)
 
     -- The kind of a line, by its head.
     pub kind-head : (f : Field) → h .field ≡ f → kindAs f (h .value) (valueAt (h .value) r) (kindOf (lineText r)) ≡ kindOf (lineText r)

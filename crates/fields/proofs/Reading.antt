@@ -1,16 +1,17 @@
 -- The kind of a line, read from the rest of its file: what stands before the first colon and behind it. Assumes nothing.
-use Prim.Native.Nat.{ℕ, _+_, _-_, _≤_}
+use Prim.Native.Nat.{ℕ, _+_, _-_, _≤_, _<_}
 use mathlib.Core.Path.{_≡_, refl, ap, _∙_}
 use mathlib.Core.Bool.{true, false, false≢true}
 use mathlib.Core.List.{List, [], _∷_, tail}
 use native.Mathlib.Omega.{arith}
-use lib.ListN.{length, drop, length-append}
+use lib.ListN.{length, drop, length-append, length-drop}
 use lib.Seq.{drop-drop}
+use borrow.Author.Tests.{ltb-true}
 use Rattle.lists.specs.Choice.{if_then_else_}
 use Rattle.lists.specs.Lists.{empty, any, upTo, from}
 use Rattle.lists.proofs.Bools.{split}
 use Rattle.lists.proofs.Parts.{upTo-from}
-use Rattle.lists.proofs.Scans.{drop-upTo, drop-past, upTo-fits}
+use Rattle.lists.proofs.Scans.{drop-upTo, drop-past, upTo-fits, any-found}
 use Rattle.lists.proofs.Places.{occurs-fits, occurs-past}
 use Rattle.protocol.specs.declared.Place.{Place}
 use Rattle.protocol.specs.declared.Kind.{Kind}
@@ -19,6 +20,7 @@ use Rattle.protocol.specs.Text.{solid, lead, trimEnd, trim}
 use Rattle.protocol.specs.Lines.{placeAt, placeAfter, lineText}
 use Rattle.protocol.specs.Kinds.{agentAt, patternAt, fieldKind, recordKind, restKind, uncommented, kindOf}
 use Rattle.protocol.specs.Classes.{stop}
+use Rattle.text.proofs.Trims.{trim-fits}
 use Rattle.fields.specs.Fields.{valueStart, valueAt}
 use Rattle.lists.proofs.Cuts.{from-none, upTo-either, upTo-before, past-before, any-before, upTo-first, upTo-past, from-past, any-past}
 use Rattle.fields.proofs.Ends.{any-end, upTo-end, past-end, trim-end, trim-from}
@@ -128,4 +130,26 @@ module _ (r : List ℕ) where
           start-told,
           upTo-fits solid behind,
           occurs-fits r behind (length (upTo (is ":") r) + 1) (occurs-past (is ":") r (any-before (is ":") stop r h)),
+        )
+
+    -- What is examined of it ends inside of what stands in front of the first stop.
+    pub value-within : valueStart r .offset + length (valueAt (valueStart r) r) ≤ length (upTo stop r)
+    unfolding lead
+    value-within =
+        let seen : List ℕ = upTo stop r in
+        let colon : ℕ = length (upTo (is ":") r) in
+        let here : length (upTo (is ":") seen) ≡ colon = ap length (upTo-before (is ":") stop r h) in
+        let inside : length (upTo (is ":") seen) < length seen
+        = ltb-true (length (upTo (is ":") seen)) (length seen) (any-found (is ":") seen ∙ h) in
+        let rest : drop (length (upTo (is ":") seen) + 1) seen ≡ upTo stop behind = drop-past (is ":") seen ∙ past-before (is ":") stop r h in
+        omega (
+          arith,
+          start-told,
+          ap length value-told,
+          here,
+          inside,
+          ap length rest,
+          length-drop (length (upTo (is ":") seen) + 1) seen,
+          trim-fits (upTo stop behind),
+          ap length (upTo-first stop solid stop-solid behind),
         )

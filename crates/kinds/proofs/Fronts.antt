@@ -24,7 +24,7 @@ use Rattle.fields.proofs.Ends.{solid-stays, end-read, end-fits}
 use Rattle.fields.proofs.Sorts.{past-stop, past-blank}
 
 -- the value's octets
-value-read : (l : List ℕ) → take (length (trimEnd (upTo stop l))) l ≡ trimEnd (upTo stop l)
+pub value-read : (l : List ℕ) → take (length (trimEnd (upTo stop l))) l ≡ trimEnd (upTo stop l)
 value-read l =
     let n : ℕ = length (trimEnd (upTo stop l)) in
     ap (take n) (sym (upTo-from stop l)) ∙ take-append-le n (upTo stop l) (from stop l) (end-fits (upTo stop l)) ∙ end-read (upTo stop l)

@@ -1,5 +1,5 @@
 mod Answering
-mod Fronts
+pub mod Fronts
 pub mod Idle
 mod Kinding
-mod Values
+pub mod Values

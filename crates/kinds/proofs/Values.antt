@@ -22,7 +22,7 @@ use Rattle.fields.proofs.Sorts.{stop-solid, past-stop, past-blank}
 use Rattle.kinds.proofs.Fronts.{above, formed-readable}
 
 -- a value is empty exactly where spaces and tabs go on to the end
-value-empty : (l : List ℕ) → empty (trimEnd (upTo stop l)) ≡ ended (from solid l)
+pub value-empty : (l : List ℕ) → empty (trimEnd (upTo stop l)) ≡ ended (from solid l)
 unfolding upTo from trimEnd unlessAtEnd
 value-empty [] = refl
 value-empty (x ∷ l) =

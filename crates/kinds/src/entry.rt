@@ -4,16 +4,20 @@
 ghost use mathlib.Core.Path.{_≡_};
 ghost use lib.ListN.{length};
 ghost use Rattle.lists.specs.Lists.{all, upTo};
-ghost use Rattle.protocol.specs.Lines.{lineText};
 ghost use Rattle.protocol.specs.Readable.{readablePattern};
-ghost use Rattle.protocol.specs.Kinds.{kindOf};
 ghost use Rattle.protocol.specs.Classes.{classTable};
 ghost use Rattle.readable.specs.Due.{ordinary, unusual};
-ghost use Rattle.kinds.specs.Entries.{entryKind, valueTold};
+ghost use Rattle.kinds.specs.Entries.{entryTold, valueTold};
 use fields::Field;
 use protocol::ClassTable;
 use protocol::Kind;
 use protocol::Place;
+
+// A line, for a pass: its kind, and where what is examined of it ends, from where the next line is looked for.
+pub struct Entry {
+    pub kind: Kind,
+    pub end: Place,
+}
 
 // The octets of a value, and whether all of them are ordinary.
 struct Value {
@@ -74,27 +78,34 @@ fn is_pattern(value: &[u8], usual: bool) -> bool
     readable::readable_pattern(value)
 }
 
-// The kind of the line that a text begins with.
-pub fn entry_kind(classes: &ClassTable, r: &[u8]) -> Kind
+// The kind of the line that a text begins with, and where what is examined of it ends.
+pub fn entry_of(classes: &ClassTable, r: &[u8]) -> Entry
     requires { ⌜ now classes ≡ classTable ⌝ }
-    ensures { λ k. ⌜ k ≡ entryKind (kindOf (lineText (now (r .entry)))) ⌝ }
+    ensures { λ e. ⌜ e ≡ entryTold (now (r .entry)) ⌝ }
 {
     let head = fields::near::head_in(classes, r);
     let field = head.field;
     if let Field::Other = field {
-        return Kind::Other;
+        return Entry {
+            kind: Kind::Other,
+            end: Place { offset: 0 },
+        };
     }
     let start = head.value.offset;
     let rest = &r[start..];
     let told = value_in(classes, rest);
     let value = &rest[..told.octets];
+    let last = start + told.octets;
+    let end = Place { offset: last };
     if let Field::Agent = field {
-        return Kind::Agent(crate::line::agent_at(classes, head.value, value));
+        let kind = Kind::Agent(crate::line::agent_at(classes, head.value, value));
+        return Entry { kind, end };
     }
     let side = crate::line::side_of(field);
     let is_readable = is_pattern(value, told.ordinary);
-    Kind::Rule(
-        side,
-        crate::line::pattern_at(head.value, value, is_readable),
-    )
+    let pattern = crate::line::pattern_at(head.value, value, is_readable);
+    Entry {
+        kind: Kind::Rule(side, pattern),
+        end,
+    }
 }

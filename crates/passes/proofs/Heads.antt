@@ -1,11 +1,13 @@
--- A line that is no agent line, told by its first octet or by its head, and one that is blank, told by its first octet. Assumes nothing.
-use Prim.Native.Nat.{ℕ, _≤_}
+-- A line that is no agent line, told by its first octet or by its head, and one that is blank, told by its first octet; where what is examined
+-- of a line ends. Assumes nothing.
+use Prim.Native.Nat.{ℕ, _+_, _≤_}
 use mathlib.Core.Path.{_≡_, refl, sym, ap, _∙_}
 use mathlib.Core.Bool.{Bool, true, false, false≢true}
 use mathlib.Core.List.{List, [], _∷_}
 use mathlib.Core.Option.{none}
 use types.Run.{OneOf, miss}
 use denote.Enum.Declared.{tagOf}
+use native.Mathlib.Omega.{arith}
 use lib.ListN.{length, drop}
 use borrow.Author.Tests.{not-false}
 use Rattle.lists.specs.Choice.{if_then_else_}
@@ -22,10 +24,11 @@ use Rattle.protocol.specs.Entries.{agent, roleOf}
 use Rattle.lines.specs.Skips.{agentOctet, entryOctet}
 use Rattle.fields.specs.declared.Field.{Field}
 use Rattle.fields.specs.declared.Head.{Head}
+use Rattle.kinds.specs.Entries.{examinedAs, entryTold}
 use Rattle.fields.specs.Near.{agentOf, agentOnly}
 use Rattle.fields.specs.Fields.{fieldOf, headOf, valueAt}
 use Rattle.fields.specs.Names.{nameLength, beginsName, fieldAt}
-use Rattle.fields.proofs.Heads.{head-field, head-inside, kind-head, no-agent, field-known}
+use Rattle.fields.proofs.Heads.{isOther, head-field, head-inside, head-within, kind-head, no-agent, field-known}
 use Rattle.fields.proofs.Field as F
 use Rattle.kinds.proofs.Idle.{ended-blank}
 use Rattle.passes.specs.Entries.{roleNames}
@@ -110,3 +113,16 @@ module _ (rest : List ℕ) (head : Head) (e : head ≡ agentOnly (headOf rest)) 
 
     pub agent-kind : Kind.Agent (agentAt (head .value) (valueAt (head .value) rest)) ≡ kindOf (lineText rest)
     agent-kind = kind-head rest head (whole h) Field.Agent h
+
+-- what is examined of a line ends inside of it
+pub entry-within : (l : List ℕ) → entryTold l .end .offset ≤ length (lineText l)
+entry-within l = go (headOf l .field) refl
+  where
+    known : (f : Field) → headOf l .field ≡ f → isOther f ≡ false → headOf l .value .offset + length (valueAt (headOf l .value) l) ≤ length (lineText l)
+    known f e o = head-within l (headOf l) refl (λ k. false≢true (sym o ∙ ap isOther (sym e ∙ k)))
+
+    go : (f : Field) → headOf l .field ≡ f → examinedAs f (headOf l .value) l .offset ≤ length (lineText l)
+    go Field.Agent e = known Field.Agent e refl
+    go Field.Allow e = known Field.Allow e refl
+    go Field.Disallow e = known Field.Disallow e refl
+    go Field.Other e = omega arith

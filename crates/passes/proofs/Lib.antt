@@ -3,3 +3,4 @@ mod Groups
 mod Heads
 mod Lines
 mod Turns
+mod Named

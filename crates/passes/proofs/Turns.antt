@@ -18,7 +18,7 @@ use Rattle.protocol.specs.declared.Agent.{Agent}
 use Rattle.protocol.specs.declared.Pattern.{Pattern}
 use Rattle.protocol.specs.declared.Kind.{Kind}
 use Rattle.protocol.specs.declared.Audience.{Audience}
-use Rattle.protocol.specs.Lines.{Line, line, lineNumber, placeAt, skipped, numberAfter, lineText, linesFrom}
+use Rattle.protocol.specs.Lines.{Line, line, lineNumber, placeAt, placeAfter, skipped, numberAfter, lineText, linesFrom}
 use Rattle.protocol.specs.Readable.{everyone, readablePattern}
 use Rattle.protocol.specs.Kinds.{kindOf, placeOf, lengthOf, unreadableKind}
 use Rattle.protocol.specs.Entries.{agent, rule, Entry, roleOf, groupAt, ruledAfter, entryOf, entriesFrom, entries}
@@ -65,14 +65,6 @@ entry-of above ruled l Kind.Other = refl
 entry-of above ruled l (Kind.Agent a) = refl
 entry-of above ruled l (Kind.Rule side q) = refl
 
--- a line that is no agent or rule line has no value
-idle-end : (k : Kind) → OneOf (0 ∷ 1 ∷ 2 ∷ []) (tagOf K.the-type k) → placeOf k .offset + lengthOf k ≡ 0
-idle-end Kind.Blank o = refl
-idle-end Kind.Noise o = refl
-idle-end Kind.Other o = refl
-idle-end (Kind.Agent a) o = absurd (miss (0 ∷ 1 ∷ 2 ∷ []) 3 tt o)
-idle-end (Kind.Rule side q) o = absurd (miss (0 ∷ 1 ∷ 2 ∷ []) 4 tt o)
-
 -- past the line at p
 module _ (file : List ℕ) (p : Position) (h : p .place .offset < length file) (few : p .number .number ≤ p .place .offset + 1) (k : Kind) (e : k ≡ entryKind (kindOf (textAt file (p .place)))) where
   -- the end of its value
@@ -80,12 +72,12 @@ module _ (file : List ℕ) (p : Position) (h : p .place .offset < length file) (
   value-told = ap (λ (q : Place). q .offset) (sym (entry-end (p .place) (kindOf (textAt file (p .place)))) ∙ ap (valueEnd (p .place)) (sym e))
 
   -- many lines at a time, where it is no agent or rule line
-  pub passed-blocks : (r : Position) → PassedOver file p r → OneOf (0 ∷ 1 ∷ 2 ∷ []) (tagOf K.the-type k) → PassedLine file p r
+  pub passed-blocks : (r : Position) → PassedOver file p r → k ≡ Kind.Other → PassedLine file p r
   passed-blocks r over o =
       record {
         inside = omega (arith, past-inside file p r over h);
         further = past-further file p r over h;
-        value = omega (arith, value-told, past-further file p r over h, idle-end k o);
+        value = omega (arith, value-told, past-further file p r over h, ap (λ (x : Kind). placeOf x .offset + lengthOf x) o);
         counted = past-few file p r over h few;
         entries =
             λ above ruled.
@@ -94,23 +86,21 @@ module _ (file : List ℕ) (p : Position) (h : p .place .offset < length file) (
             file p r over);
       }
 
-  -- the line alone, from the end of its value on
-  pub passed-value : (r : Position) → r ≡ record { number = p .number; place = valueEnd (p .place) k } → PassedLine file p r
-  passed-value r s =
-      let fits : valueEnd (p .place) k .offset ≤ p .place .offset + length (textAt file (p .place)) = value-end-inside file (p .place) (omega arith) k e in
-      let next : nextAt file (valueEnd (p .place) k) ≡ nextAt file (p .place) = next-mid file (p .place) (placeOf k .offset + lengthOf k) (omega (arith, fits)) in
-      let same : nextAt file (valueEnd (p .place) k) .offset ≡ nextAt file (p .place) .offset = ap (λ (x : Place). x .offset) next in
+  -- the line alone, from an octet of its text or its end on
+  pub passed-alone : (n : ℕ) → n ≤ length (textAt file (p .place)) → PassedLine file p (record { number = p .number; place = placeAfter (p .place) n })
+  passed-alone n fits =
+      let next : nextAt file (placeAfter (p .place) n) ≡ nextAt file (p .place) = next-mid file (p .place) n fits in
+      let same : nextAt file (placeAfter (p .place) n) .offset ≡ nextAt file (p .place) .offset = ap (λ (x : Place). x .offset) next in
       let on : p .place .offset < nextAt file (p .place) .offset = next-further file (p .place) h in
-      rw s
-      (record {
+      record {
         inside = omega (arith, fits, text-inside file (p .place) (omega arith));
         further = omega (arith, same, on);
-        value = omega (arith, value-told, same, fits, text-next file (p .place));
+        value = omega (arith, value-told, same, value-end-inside file (p .place) (omega arith) k e, text-next file (p .place));
         counted = omega (arith, same, few, on);
         entries =
             λ above ruled.
             ap (λ (x : Place). entriesFrom above ruled (linesFrom (numberAfter (p .number) 1) x 0 (drop (x .offset) file))) next;
-      })
+      }
 
 -- the line at a position and those behind it
 module _ (file : List ℕ) (p : Position) (h : p .place .offset < length file) where

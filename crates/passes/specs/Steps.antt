@@ -12,6 +12,8 @@ use Rattle.protocol.specs.Lines.{Line, numberAfter, placeAfter, linesFrom}
 use Rattle.protocol.specs.Kinds.{kindOf}
 use Rattle.protocol.specs.Entries.{entriesFrom}
 use Rattle.lines.specs.Spans.{textAt, nextAt}
+use Rattle.kinds.specs.declared.entry.Entry.{Entry}
+use Rattle.kinds.specs.Entries.{entryTold}
 use Rattle.considering.specs.declared.Considered.{Considered}
 use Rattle.passes.specs.Entries.{valueEnd}
 
@@ -23,6 +25,10 @@ pub record Room (file path scratch : List ℕ) (p : Place) (c : Considered) : Ty
   pub short : length path ≤ 6_142
   pub lent : length path ≤ length scratch
   pub compared : c .compared ≤ 18_426 * p .offset
+
+-- the line at p, for a pass
+abbrev pub lineEntry : List ℕ → Place → Entry
+lineEntry file p = entryTold (drop (p .offset) file)
 
 -- the lines behind the one at p
 abbrev pub linesPast : List ℕ → Position → List Line

@@ -13,9 +13,10 @@ ghost use Rattle.kinds.specs.Entries.{entryKind};
 ghost use Rattle.hearing.specs.Heard.{whom};
 ghost use Rattle.considering.specs.Considering.{consideredAll};
 ghost use Rattle.passes.specs.Entries.{heardOther, entryAt, ruleHeard, gathered};
-ghost use Rattle.passes.specs.Steps.{Room, PassedLine, nextLook};
+ghost use Rattle.passes.specs.Steps.{Room, PassedLine, lineEntry, nextLook};
 use considering::Considered;
 use hearing::Hearing;
+use kinds::entry::Entry;
 use protocol::Agent;
 use protocol::Audience;
 use protocol::ClassTable;
@@ -116,22 +117,20 @@ fn pass_idle(file: &[u8], at: Position, soonest: Place) -> Position
 }
 
 // An octet of the last line that is passed: of the line at `at`, or of one behind it, no agent or rule line being among those.
-fn pass_line(file: &[u8], at: Position, kind: Kind, soonest: Place) -> Position
-    requires { ⌜ (at .place .offset < length (now file)) × (at .number .number ≤ at .place .offset + 1) × (kind ≡ entryKind (kindOf (textAt (now file) (at .place)))) ⌝ }
+fn pass_line(file: &[u8], at: Position, entry: Entry, soonest: Place) -> Position
+    requires { ⌜ (at .place .offset < length (now file)) × (at .number .number ≤ at .place .offset + 1) × (entry ≡ lineEntry (now file) (at .place)) ⌝ }
     ensures { λ r. ⌜ PassedLine (now (file .entry)) at r ⌝ }
 {
-    let number = at.number;
-    match kind {
-        Kind::Agent(_) => Position {
+    let kind = entry.kind;
+    let Kind::Other = kind else {
+        let number = at.number;
+        let end = at.place.offset + entry.end.offset;
+        return Position {
             number,
-            place: crate::line::value_end(file, at.place, kind),
-        },
-        Kind::Rule(_, _) => Position {
-            number,
-            place: crate::line::value_end(file, at.place, kind),
-        },
-        _ => pass_idle(file, at, soonest),
-    }
+            place: Place { offset: end },
+        };
+    };
+    pass_idle(file, at, soonest)
 }
 
 // A block of 64 octets in which such a line begins is not looked at again for each of its lines.
@@ -166,8 +165,9 @@ pub fn gather(
     while at.place.offset < file.len() {
         let here = at;
         let start = here.place.offset;
-        let kind = kinds::entry::entry_kind(classes, &file[start..]);
-        let over = pass_line(file, here, kind, soonest);
+        let entry = kinds::entry::entry_of(classes, &file[start..]);
+        let kind = entry.kind;
+        let over = pass_line(file, here, entry, soonest);
         soonest = next_look(soonest, over.place);
         at = crate::line::next_line(over, lines::span::next_place(classes, file, over.place));
         let Kind::Rule(side, pattern) = kind else {

@@ -1,3 +1,3 @@
 pub mod Characters
-mod Naming
+pub mod Naming
 mod BadNames

@@ -137,7 +137,7 @@ fn is_name(classes: &ClassTable, v: &[u8]) -> bool
 }
 
 // The value "*".
-fn is_everyone(v: &[u8]) -> bool
+pub fn is_everyone(v: &[u8]) -> bool
     ensures { λ r. ⌜ r ≡ same (now (v .entry)) everyone ⌝ }
 {
     if v.len() != 1 {

@@ -1,22 +1,24 @@
 -- `passes::audience::line_audience` meets its contract. Assumes nothing.
-use Prim.Native.Nat.{ℕ, _-_}
+use Prim.Native.Nat.{ℕ, _+_, _-_, _≤_}
 use mathlib.Core.Path.{_≡_, sym, ap, _∙_}
 use mathlib.Core.List.{List}
 use lib.ListN.{length, take, drop}
+use lib.Seq.{drop-drop}
 use borrow.Author.Needs.{needs}
 use Rattle.lists.proofs.Scans.{rest-of}
 use Rattle.protocol.specs.declared.Kind.{Kind}
-use Rattle.protocol.specs.declared.Agent.{Agent}
 use Rattle.protocol.specs.declared.Place.{Place}
 use Rattle.protocol.specs.Lines.{lineText}
-use Rattle.protocol.specs.Kinds.{kindOf}
+use Rattle.protocol.specs.Kinds.{agentAt, kindOf}
 use Rattle.protocol.specs.Entries.{roleOf}
 use Rattle.lines.specs.Spans.{textAt}
 use Rattle.fields.specs.declared.Field.{Field}
-use Rattle.kinds.specs.Entries.{entryKind}
+use Rattle.fields.specs.Fields.{valueAt}
+use Rattle.kinds.specs.Entries.{valueFront}
 use Rattle.hearing.specs.Heard.{addressed}
 use Rattle.passes.specs.Entries.{lineValue}
 use Rattle.passes.proofs.Heads.{head-no-agent, agent-inside, agent-kind}
+use Rattle.passes.proofs.Named.{agent-value}
 use Rattle.passes.proofs.Turns.{agent-audience, other-audience}
 use Rattle.passes.proofs.audience.line_audience.Statement.{statement}
 use Rattle.passes.proofs.audience.line_audience.Tie as tie
@@ -53,37 +55,59 @@ returns c =
     other-audience (file h) (start h .args .name .now) (at h)
     (rw (rest-of (at h .offset) (file h)) at (head-no-agent _ (h .agent-head .result) (h .agent-head .ensures) (c .match .keys2)))
 
-agent-of-requires : tie.Need-agent-of-requires
-agent-of-requires c κs =
-    let h = c .before .before in
-    (search needs, agent-inside _ (h .agent-head .result) (h .agent-head .ensures) (c .enum-told .given .1))
-
--- an agent line, and its kind
-module _ (c : tie.After-agent-of) where
+-- an agent line, and its value
+module _ (c : tie.After-enum-told) where
   abbrev headed : tie.After-agent-head
-  headed = c .before .before .before
+  headed = c .before .before
 
-  agent-known : Kind.Agent (c .agent-of .result) ≡ kindOf (textAt (file headed) (at headed))
+  abbrev rest : List ℕ
+  rest = take (length (file headed) - at headed .offset) (drop (at headed .offset) (file headed))
+
+  abbrev value : Place
+  value = headed .agent-head .result .value
+
+  inside : value .offset ≤ length rest
+  inside = agent-inside rest (headed .agent-head .result) (headed .agent-head .ensures) (c .enum-told .given .1)
+
+  agent-known : Kind.Agent (agentAt value (valueAt value rest)) ≡ kindOf (textAt (file headed) (at headed))
   agent-known =
-      ap Kind.Agent (c .agent-of .ensures)
-      ∙ agent-kind _ (headed .agent-head .result) (headed .agent-head .ensures) (c .before .enum-told .given .1)
+      agent-kind rest (headed .agent-head .result) (headed .agent-head .ensures) (c .enum-told .given .1)
       ∙ ap (λ (l : List ℕ). kindOf (lineText l)) (rest-of (at headed .offset) (file headed))
 
-value-of-requires : tie.Need-value-of-requires
-value-of-requires c κs = (start (headed c) .pre .1, ap entryKind (agent-known c))
+  -- the octets from the value on
+  from-value : drop (value .offset) rest ≡ drop (at headed .offset + value .offset) (file headed)
+  from-value =
+      ap (drop (value .offset)) (rest-of (at headed .offset) (file headed)) ∙ drop-drop (value .offset) (at headed .offset) (file headed)
 
-addressed-requires : tie.Need-addressed-requires
-addressed-requires c κs = search needs
+  value-known : valueFront (drop (value .offset) rest) ≡ lineValue (file headed) (at headed) (kindOf (textAt (file headed) (at headed)))
+  unfolding valueAt
+  value-known =
+      ap valueFront from-value
+      ∙ sym (agent-value (file headed) (at headed) value)
+      ∙ ap (λ (v : List ℕ). lineValue (file headed) (at headed) (Kind.Agent (agentAt value v))) (ap valueFront (sym from-value))
+      ∙ ap (lineValue (file headed) (at headed)) agent-known
+
+sub-value-audience : tie.Need-sub-value-audience
+sub-value-audience c = inside c
+
+part-value-audience-start : tie.Need-part-value-audience-start
+part-value-audience-start c = inside c
+
+part-value-audience-end : tie.Need-part-value-audience-end
+part-value-audience-end c = search needs
+
+value-audience-requires : tie.Need-value-audience-requires
+value-audience-requires c κs = search needs
 
 returns-2 : tie.Need-returns-2
 unfolding roleOf
 returns-2 c =
-    let v = c .before in
-    let k = v .before in
-    let h = headed k in
-    c .addressed .ensures
-    ∙ ap (addressed (start h .args .name .now)) (v .value-of .ensures ∙ ap (lineValue (file h) (at h)) (agent-known k))
-    ∙ agent-audience (file h) (start h .args .name .now) (at h) (ap roleOf (sym (agent-known k)))
+    let e = c .before .before in
+    let h = headed e in
+    let name = start h .args .name .now in
+    c .value-audience .ensures
+    ∙ ap (addressed name) (ap valueFront (rest-of (value e .offset) (rest e)) ∙ value-known e)
+    ∙ agent-audience (file h) name (at h) (ap roleOf (sym (agent-known e)))
 
 pub line-audience-spec : {M : Type 1} → statement M
 line-audience-spec =
@@ -95,7 +119,8 @@ line-audience-spec =
     agent-head-requires
     enum-told
     returns
-    agent-of-requires
-    value-of-requires
-    addressed-requires
+    sub-value-audience
+    part-value-audience-start
+    part-value-audience-end
+    value-audience-requires
     returns-2)

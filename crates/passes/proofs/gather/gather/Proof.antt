@@ -11,11 +11,12 @@ use Rattle.protocol.specs.declared.Position.{Position}
 use Rattle.protocol.specs.Lines.{numberAfter}
 use Rattle.protocol.specs.Kinds.{kindOf}
 use Rattle.lines.specs.Spans.{textAt}
-use Rattle.kinds.specs.Entries.{entryKind}
+use Rattle.kinds.specs.declared.entry.Entry.{Entry}
+use Rattle.kinds.specs.Entries.{entryKind, entryTold}
 use Rattle.lines.proofs.Forward.{next-inside}
 use Rattle.hearing.specs.Heard.{whom}
 use Rattle.passes.specs.Entries.{gathered}
-use Rattle.passes.specs.Steps.{PassedLine}
+use Rattle.passes.specs.Steps.{lineEntry, PassedLine}
 use Rattle.passes.proofs.Lines.{entry-rule}
 use Rattle.passes.proofs.Turns.{lineBehind, left-all, left-none, Reached, reached-other, reached-rule}
 use Rattle.passes.proofs.gather.gather.Statement.{statement}
@@ -67,28 +68,31 @@ module _ (c : tie.Then1 Inv-loop μ-loop) where
   inside : at .place .offset < length file
   inside = c .if1 .taken
 
-sub-entry-kind : tie.Need-sub-entry-kind Inv-loop μ-loop
-sub-entry-kind c = omega (arith, inside c)
+sub-entry-of : tie.Need-sub-entry-of Inv-loop μ-loop
+sub-entry-of c = omega (arith, inside c)
 
-part-entry-kind-start : tie.Need-part-entry-kind-start Inv-loop μ-loop
-part-entry-kind-start c = omega (arith, inside c)
+part-entry-of-start : tie.Need-part-entry-of-start Inv-loop μ-loop
+part-entry-of-start c = omega (arith, inside c)
 
-part-entry-kind-end : tie.Need-part-entry-kind-end Inv-loop μ-loop
-part-entry-kind-end c = omega (arith, inside c)
+part-entry-of-end : tie.Need-part-entry-of-end Inv-loop μ-loop
+part-entry-of-end c = omega (arith, inside c)
 
-entry-kind-requires : tie.Need-entry-kind-requires Inv-loop μ-loop
-entry-kind-requires c κs = search needs
+entry-of-requires : tie.Need-entry-of-requires Inv-loop μ-loop
+entry-of-requires c κs = search needs
 
 -- its kind
-module _ (c : tie.After-entry-kind Inv-loop μ-loop) where
+module _ (c : tie.After-entry-of Inv-loop μ-loop) where
   abbrev line : tie.Then1 Inv-loop μ-loop
   line = c .before .before
 
-  kind-known : c .entry-kind .result ≡ entryKind (kindOf (textAt (file line) (at line .place)))
-  kind-known = rw (rest-of (at line .place .offset) (file line)) at (c .entry-kind .ensures)
+  entry-known : c .entry-of .result ≡ lineEntry (file line) (at line .place)
+  entry-known = c .entry-of .ensures ∙ ap entryTold (rest-of (at line .place .offset) (file line))
+
+  kind-known : c .entry-of .result .kind ≡ entryKind (kindOf (textAt (file line) (at line .place)))
+  kind-known = ap (λ (e : Entry). e .kind) entry-known
 
 pass-line-requires : tie.Need-pass-line-requires Inv-loop μ-loop
-pass-line-requires c κs = let l = line c in (inside l, turn l .loop .inv .counted, kind-known c)
+pass-line-requires c κs = let l = line c in (inside l, turn l .loop .inv .counted, entry-known c)
 
 next-look-requires : tie.Need-next-look-requires Inv-loop μ-loop
 next-look-requires c κs = let l = line (c .before) in omega (arith, c .pass-line .ensures .inside, entry l .pre .1)
@@ -104,7 +108,7 @@ next-line-requires c κs =
 
 -- the next line, behind those that are passed
 module _ (c : tie.After-next-line Inv-loop μ-loop) where
-  abbrev told : tie.After-entry-kind Inv-loop μ-loop
+  abbrev told : tie.After-entry-of Inv-loop μ-loop
   told = c .before .before .before .before
 
   abbrev over : Position
@@ -200,10 +204,10 @@ gather-spec =
     none-considered-requires
     first-line-requires
     loop-holds
-    sub-entry-kind
-    part-entry-kind-start
-    part-entry-kind-end
-    entry-kind-requires
+    sub-entry-of
+    part-entry-of-start
+    part-entry-of-end
+    entry-of-requires
     pass-line-requires
     next-look-requires
     next-place-requires

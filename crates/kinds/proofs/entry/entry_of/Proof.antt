@@ -1,36 +1,33 @@
--- `kinds::entry::entry_kind` meets its contract. Assumes nothing.
-use Prim.Native.Nat.{ℕ, _-_, _≤_}
+-- `kinds::entry::entry_of` meets its contract. Assumes nothing.
+use Prim.Native.Nat.{ℕ, _+_, _-_, _≤_}
 use mathlib.Core.Path.{_≡_, refl, sym, ap, _∙_}
-use mathlib.Core.Bool.{Bool, true, false, false≢true}
-use mathlib.Core.List.{List}
+use mathlib.Core.Bool.{false≢true}
+use mathlib.Core.List.{List, [], _∷_}
 use native.Mathlib.Omega.{arith}
-use lib.ListN.{length, take, drop}
+use lib.ListN.{length, take, drop, length-take}
 use lib.Seq.{length-take-le}
 use borrow.Author.Needs.{needs}
+use types.Run.{OneOf, miss}
+use denote.Enum.Declared.{tagOf}
 use Rattle.lists.specs.Lists.{all, upTo}
 use Rattle.protocol.specs.declared.Kind.{Kind}
 use Rattle.protocol.specs.declared.Side.{Side}
 use Rattle.protocol.specs.declared.Place.{Place}
 use Rattle.protocol.specs.Text.{trimEnd}
-use Rattle.protocol.specs.Lines.{lineText}
+use Rattle.protocol.specs.Lines.{placeAt, placeAfter, lineText}
 use Rattle.protocol.specs.Kinds.{agentAt, patternAt, kindOf}
 use Rattle.protocol.specs.Classes.{stop}
 use Rattle.readable.specs.Due.{ordinary}
 use Rattle.fields.specs.declared.Field.{Field}
 use Rattle.fields.specs.declared.Head.{Head}
-use Rattle.fields.specs.Fields.{fieldOf, sideOf, valueAt}
-use Rattle.fields.proofs.Heads.{head-field, head-inside, kind-head, kind-rule}
+use Rattle.fields.specs.Fields.{fieldOf, sideOf, headOf, valueAt}
+use Rattle.fields.proofs.Field as F
+use Rattle.fields.proofs.Heads.{isOther, head-field, head-inside, kind-head, kind-rule}
 use Rattle.kinds.specs.declared.entry.Value.{Value}
-use Rattle.kinds.specs.Entries.{entryKind}
+use Rattle.kinds.specs.Entries.{entryKind, examinedAs, entryTold}
 use Rattle.kinds.proofs.Fronts.{value-fits, value-of, value-at}
-use Rattle.kinds.proofs.entry.entry_kind.Statement.{statement}
-use Rattle.kinds.proofs.entry.entry_kind.Tie as tie
-
-abbrev isOther : Field → Bool
-isOther Field.Agent = false
-isOther Field.Allow = false
-isOther Field.Disallow = false
-isOther Field.Other = true
+use Rattle.kinds.proofs.entry.entry_of.Statement.{statement}
+use Rattle.kinds.proofs.entry.entry_of.Tie as tie
 
 -- a line without a known field is no entry
 other-entry : (k : Kind) → fieldOf k ≡ Field.Other → Kind.Other ≡ entryKind k
@@ -58,10 +55,32 @@ module _ (c : tie.After-head-in) where
 enum-told : tie.Need-enum-told
 enum-told c = search needs
 
+-- where what is examined ends, by the head
+end-other : (l : List ℕ) (h : Head) → h ≡ headOf l → h .field ≡ Field.Other → placeAt 0 ≡ examinedAs (headOf l .field) (headOf l .value) l
+end-other l h e o = rw (← e, o)
+
+end-known : (l : List ℕ) (h : Head) → h ≡ headOf l → OneOf (0 ∷ 1 ∷ 2 ∷ []) (tagOf F.the-type (h .field))
+    → placeAfter (h .value) (length (valueAt (h .value) l)) ≡ examinedAs (headOf l .field) (headOf l .value) l
+end-known l h e k = rw (← e) (go (h .field) k)
+  where
+    go : (f : Field) → OneOf (0 ∷ 1 ∷ 2 ∷ []) (tagOf F.the-type f) → placeAfter (h .value) (length (valueAt (h .value) l)) ≡ examinedAs f (h .value) l
+    go Field.Agent k = refl
+    go Field.Allow k = refl
+    go Field.Disallow k = refl
+    go Field.Other k = absurd (miss (0 ∷ 1 ∷ 2 ∷ []) 3 tt k)
+
+-- both parts of what is told
+told-by : (l : List ℕ) (k : Kind) (e : Place) → k ≡ entryKind (kindOf (lineText l)) → e ≡ examinedAs (headOf l .field) (headOf l .value) l
+    → record { kind = k; end = e } ≡ entryTold l
+told-by l k e p q = rw (p, q)
+
 returns : tie.Need-returns
 returns c =
     let h = c .before .before in
-    other-entry (kindOf (lineText (text h))) (sym (head-field (text h) (head h) (h .head-in .ensures)) ∙ c .enum-told .given .1)
+    let other = c .enum-told .given .1 in
+    told-by (text h) Kind.Other (placeAt 0)
+    (other-entry (kindOf (lineText (text h))) (sym (head-field (text h) (head h) (h .head-in .ensures)) ∙ other))
+    (end-other (text h) (head h) (h .head-in .ensures) other)
 
 sub-rest : tie.Need-sub-rest
 sub-rest c = head-known (c .before)
@@ -105,6 +124,18 @@ module _ (c : tie.After-value-in) where
 slice-aggregate-value : tie.Need-slice-aggregate-value
 slice-aggregate-value c = let v = c .before in sym (length-take-le (size v) (rest v) (size-in v))
 
+add-last : tie.Need-add-last
+add-last c =
+    let v = c .before .before in
+    omega (arith, size-in v, head-known (seen v), length-take (length (text (seen v)) - start v) (drop (start v) (text (seen v))))
+
+-- where it ends
+end-told : (v : tie.After-value-in) → placeAt (start v + size v) ≡ examinedAs (headOf (text (seen v)) .field) (headOf (text (seen v)) .value) (text (seen v))
+end-told v =
+    let h = seen v in
+    ap placeAt (omega (arith, size-known v, ap length (value-of (text h) (head h .value))))
+    ∙ end-known (text h) (head h) (h .head-in .ensures) (v .before .before .match .keys2)
+
 enum-told-2 : tie.Need-enum-told-2
 enum-told-2 c = search needs
 
@@ -114,16 +145,18 @@ agent-at-requires c κs = search needs
 returns-2 : tie.Need-returns-2
 returns-2 c =
     let t = c .before in
-    let v = t .before .before .before in
+    let v = t .before .before .before .before in
     let h = seen v in
-    ap Kind.Agent (c .agent-at .ensures ∙ ap (agentAt (head h .value)) (value-known v))
-    ∙ ap entryKind (kind-head (text h) (head h) (h .head-in .ensures) Field.Agent (t .enum-told2 .given .1))
+    told-by (text h) _ _
+    (ap Kind.Agent (c .agent-at .ensures ∙ ap (agentAt (head h .value)) (value-known v))
+    ∙ ap entryKind (kind-head (text h) (head h) (h .head-in .ensures) Field.Agent (t .enum-told2 .given .1)))
+    (end-told v)
 
 side-of-requires : tie.Need-side-of-requires
 side-of-requires c κs = tt
 
 is-pattern-requires : tie.Need-is-pattern-requires
-is-pattern-requires c κs = ordinary-known (c .before .before .before)
+is-pattern-requires c κs = ordinary-known (c .before .before .before .before)
 
 pattern-at-requires : tie.Need-pattern-at-requires
 pattern-at-requires c κs = search needs
@@ -131,13 +164,15 @@ pattern-at-requires c κs = search needs
 returns-3 : tie.Need-returns-3
 returns-3 c =
     let p = c .before .before in
-    let v = p .before .before .before in
+    let v = p .before .before .before .before in
     let h = seen v in
-    rw (p .side-of .ensures, c .pattern-at .ensures, value-known v)
-    (ap entryKind (kind-rule (text h) (head h) (h .head-in .ensures) (v .before .before .match .keys2) (p .before .match2 .keys2)))
+    told-by (text h) _ _
+    (rw (p .side-of .ensures, c .pattern-at .ensures, value-known v)
+    (ap entryKind (kind-rule (text h) (head h) (h .head-in .ensures) (v .before .before .match .keys2) (p .before .match2 .keys2))))
+    (end-told v)
 
-pub entry-kind-spec : {M : Type 1} → statement M
-entry-kind-spec =
+pub entry-of-spec : {M : Type 1} → statement M
+entry-of-spec =
     tie.close
     (tie.spec
     head-in-requires
@@ -148,6 +183,7 @@ entry-kind-spec =
     part-rest-end
     value-in-requires
     slice-aggregate-value
+    add-last
     enum-told-2
     agent-at-requires
     returns-2
