@@ -1,7 +1,7 @@
 -- Sorts of octets that a text is searched for, and where the first of a sort stands. Assumes nothing.
 use Prim.Native.Nat.{ℕ}
-use mathlib.Core.Bool.{Bool, not}
-use mathlib.Core.List.{List}
+use mathlib.Core.Bool.{Bool, false, not}
+use mathlib.Core.List.{List, [], _∷_}
 use lib.Dec.{ltb, eqb}
 use lib.ListN.{length, drop}
 use Rattle.lists.specs.Choice.{if_then_else_}
@@ -15,6 +15,11 @@ use Rattle.protocol.specs.Lines.{placeAfter}
 -- y is the octet x
 abbrev pub equals : ℕ → ℕ → Bool
 equals x y = eqb y x
+
+-- a text begins with an octet that passes the test
+abbrev pub opens : (ℕ → Bool) → List ℕ → Bool
+opens f [] = false
+opens f (x ∷ l) = f x
 
 -- the place of the first octet from p on that passes the test, or the text's end
 abbrev pub firstFrom : (ℕ → Bool) → List ℕ → Place → Place

@@ -11,7 +11,7 @@ ghost use Rattle.protocol.specs.Text.{lead, trimEnd};
 ghost use Rattle.protocol.specs.Octets.{lineEnd};
 ghost use Rattle.protocol.specs.Classes.{classTable};
 ghost use Rattle.words.specs.Words.{octetsOf, among, mark};
-ghost use Rattle.text.specs.Parts.{equals, firstFrom, sought, past};
+ghost use Rattle.text.specs.Parts.{equals, opens, firstFrom, sought, past};
 use protocol::ClassTable;
 use protocol::Place;
 use protocol::Sort;
@@ -98,11 +98,26 @@ fn past_line(s: &[u8], from: Place) -> Place
     Place { offset: i }
 }
 
-// The place of the first CR or LF from `from` on, or the text's end.
+// CR or LF stands there.
+fn is_end_at(classes: &ClassTable, s: &[u8], at: Place) -> bool
+    requires { ⌜ now classes ≡ classTable ⌝ }
+    ensures { λ r. ⌜ r ≡ opens lineEnd (drop (at .offset) (now (s .entry))) ⌝ }
+{
+    let i = at.offset;
+    if s.len() <= i {
+        return false;
+    }
+    octets::is_of(classes, Sort::LineEnd, s[i])
+}
+
+// The place of the first CR or LF from `from` on, or the text's end. Mostly one stands there.
 pub fn line_end(classes: &ClassTable, s: &[u8], from: Place) -> Place
     requires { ⌜ now classes ≡ classTable ⌝ }
     ensures { λ r. ⌜ r ≡ firstFrom lineEnd (now (s .entry)) from ⌝ }
 {
+    if is_end_at(classes, s, from) {
+        return from;
+    }
     let start = past_line(s, from);
     let mut i = start.offset;
     while i < s.len() {
