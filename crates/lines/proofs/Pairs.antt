@@ -32,6 +32,14 @@ module _ {A B : Type 0} where
   zip-take (suc n) (x ∷ l) [] = refl
   zip-take (suc n) (x ∷ l) (y ∷ m) = ap (λ (r : List (A × B)). (x, y) ∷ r) (zip-take n l m)
 
+  -- one element more has nothing beside it
+  zip-more : (n : ℕ) (l : List A) (m : List B) → zip (take (suc n) l) (take n m) ≡ take n (zip l m)
+  unfolding zip zipWith
+  zip-more zero l m = zip-none (take 1 l)
+  zip-more (suc n) [] m = refl
+  zip-more (suc n) (x ∷ l) [] = refl
+  zip-more (suc n) (x ∷ l) (y ∷ m) = ap (λ (r : List (A × B)). (x, y) ∷ r) (zip-more n l m)
+
   zip-drop : (n : ℕ) (l : List A) (m : List B) → drop n (zip l m) ≡ zip (drop n l) (drop n m)
   unfolding zip zipWith
   zip-drop zero l m = refl
@@ -47,6 +55,14 @@ zip-next l m i h k = rw (zip-drop i l m, zip-drop (i + 1) l m, drop-one l i 0 h,
 -- a part that is lent has so many octets
 pub part-length : (s : List ℕ) (i k n : ℕ) → n ≡ k → i + k ≤ length s → length (take n (drop i s)) ≡ k
 part-length s i k n e h = rw e (simp (length-take, length-drop) (omega arith))
+
+-- of a text's front, which has an octet more than pairs
+pub pairs-front : (s : List ℕ) (k n : ℕ) → n ≡ k + 1 → pairs (take n s) ≡ take k (pairs s)
+pairs-front s k n e = let g : n ≡ suc k = omega arith in rw (g, behind s) (zip-more k s (drop 1 s))
+  where
+    behind : (l : List ℕ) → drop 1 (take (suc k) l) ≡ take k (drop 1 l)
+    behind [] = sym (take-nil k)
+    behind (x ∷ l) = refl
 
 -- the octets of a text and those behind them
 module _ (s : List ℕ) where

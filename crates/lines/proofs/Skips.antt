@@ -8,12 +8,12 @@ use lib.Bits.{bitOr}
 use lib.Dec.{eqb, ltb}
 use lib.ListN.{length, take, drop, getD, length-take, length-drop, drop-of-length-le}
 use lib.Seq.{drop-drop}
-use borrow.Author.Tests.{not-true, not-false, ltb-true, ltb-false}
+use borrow.Author.Tests.{not-true, not-false, ltb-true, ltb-false, lt-ltb, le-ltb}
 use Rattle.lists.specs.Choice.{oneIf}
 use Rattle.lists.specs.Lists.{any, total, numbersFrom}
 use Rattle.lists.proofs.Bools.{one-at-most, split, and-left, and-right}
 use Rattle.lists.proofs.Parts.{upTo-stop, upTo-on}
-use Rattle.lists.proofs.Scans.{upTo-fits}
+use Rattle.lists.proofs.Scans.{upTo-fits, any-found}
 use Rattle.octets.proofs.Every.{every-octet}
 use Rattle.protocol.specs.declared.LineNumber.{LineNumber}
 use Rattle.protocol.specs.declared.Place.{Place}
@@ -21,7 +21,7 @@ use Rattle.protocol.specs.declared.Position.{Position}
 use Rattle.protocol.specs.Octets.{is, upper, blank, lineEnd, lowerCase}
 use Rattle.protocol.specs.Lines.{lineNumber, placeAt, numberAfter, placeAfter}
 use Rattle.lines.specs.Skips.{agentOctet, entryOctet, pairs, opens, quiet, closes, endings, agentFront, blocksAt, PassedOver, PassedFrom}
-use Rattle.lines.proofs.Pairs.{zip-next, pairs-length, pairs-part, any-parts, upTo-within, upTo-over, total-parts}
+use Rattle.lines.proofs.Pairs.{zip-next, pairs-length, pairs-front, pairs-part, pairs-rest, any-parts, upTo-within, upTo-over, total-parts}
 
 -- without a branch: a letter with the bit 32 set is the lower-case one
 pub agent-bits : (x : ℕ) → x < 256 → (eqb (bitOr x 32) 117 || eqb x 32 || eqb x 9) ≡ agentOctet x
@@ -67,6 +67,31 @@ module _ (s : List ℕ) (i k n m : ℕ) (e : n ≡ k) (g : m ≡ k) where
       let rest : List (ℕ × ℕ) = drop i (pairs s) in
       let fits : k ≤ length rest = omega (arith, length-drop i (pairs s), pairs-length s) in
       rw (← drop-drop k i (pairs s)) (upTo-over (opens agentOctet) k rest fits (not-true _ (rw (pairs-part s i k n m e g) at h)))
+
+-- in a few octets, and behind all of them but the last
+module _ (s : List ℕ) (i k n : ℕ) (e : n ≡ k + 1) (f : i + k < length s) where
+  abbrev few : List ℕ
+  few = take n (drop i s)
+
+  abbrev rest : List (ℕ × ℕ)
+  rest = drop i (pairs s)
+
+  few-pairs : pairs few ≡ take k rest
+  few-pairs = pairs-front (drop i s) k n e ∙ ap (take k) (pairs-rest s i)
+
+  few-length : length (take k rest) ≡ k
+  few-length = simp (length-take, length-drop, pairs-length) (omega arith)
+
+  few-holds : ltb (agentFront (pairs few)) k ≡ any (opens agentOctet) (take k rest)
+  few-holds = rw few-pairs (rw few-length at (any-found (opens agentOctet) (take k rest)))
+
+  pub front-near : agentFront (pairs few) < k → agentFront (pairs few) ≡ agentFront rest
+  front-near h = ap agentFront few-pairs ∙ upTo-within (opens agentOctet) k rest (sym few-holds ∙ lt-ltb _ k h)
+
+  pub front-behind : k ≤ agentFront (pairs few) → agentFront rest ≡ k + agentFront (drop (i + k) (pairs s))
+  front-behind h =
+      let fits : k ≤ length rest = omega (arith, length-drop i (pairs s), pairs-length s) in
+      rw (← drop-drop k i (pairs s)) (upTo-over (opens agentOctet) k rest fits (sym few-holds ∙ le-ltb _ k h))
 
 pub front-fits : (s : List ℕ) (i : ℕ) → agentFront (drop i (pairs s)) ≤ length s - 1 - i
 front-fits s i = omega (arith, upTo-fits (opens agentOctet) (drop i (pairs s)), length-drop i (pairs s), pairs-length s)

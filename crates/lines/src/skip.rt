@@ -71,8 +71,8 @@ fn front_agent(b: &[u8], behind: &[u8]) -> usize
     first as usize
 }
 
-// The same for the few octets at a text's end, one by one.
-fn last_agent(s: &[u8]) -> usize
+// Where in the octets the first line begins that may be an agent line, one by one; their end, if there is none.
+fn near_agent(s: &[u8]) -> usize
     requires { ⌜ 1 ≤ length (now s) ⌝ }
     ensures { λ r. ⌜ r ≡ agentFront (pairs (now (s .entry))) + 1 ⌝ }
 {
@@ -88,8 +88,20 @@ fn last_agent(s: &[u8]) -> usize
     s.len()
 }
 
-// Where the next line begins that may be an agent line; the text's end, if there is none.
-pub fn next_agent(s: &[u8], from: Place) -> Place
+// The same at a text's end: most texts end without an agent line, so all octets are looked at first.
+fn tail_agent(s: &[u8]) -> usize
+    requires { ⌜ 1 ≤ length (now s) ⌝ }
+    ensures { λ r. ⌜ r ≡ agentFront (pairs (now (s .entry))) + 1 ⌝ }
+{
+    let last = s.len() - 1;
+    if is_quiet(&s[..last], &s[1..]) {
+        return s.len();
+    }
+    near_agent(s)
+}
+
+// As `next_agent`, block by block.
+fn far_agent(s: &[u8], from: Place) -> Place
     requires { ⌜ from .offset < length (now s) ⌝ }
     ensures { λ r. ⌜ r ≡ nextAgent (now (s .entry)) from ⌝ }
 {
@@ -103,13 +115,29 @@ pub fn next_agent(s: &[u8], from: Place) -> Place
         }
         i += 64;
     }
-    // most texts end without an agent line
-    let last = s.len() - 1;
-    if is_quiet(&s[i..last], &s[i + 1..]) {
-        return Place { offset: s.len() };
-    }
-    let found = i + last_agent(&s[i..]);
+    let found = i + tail_agent(&s[i..]);
     Place { offset: found }
+}
+
+// Where the next line begins that may be an agent line; the text's end, if there is none. Before any block, the next five
+// octets are looked at one by one: where such lines are short, the next is near.
+pub fn next_agent(s: &[u8], from: Place) -> Place
+    requires { ⌜ from .offset < length (now s) ⌝ }
+    ensures { λ r. ⌜ r ≡ nextAgent (now (s .entry)) from ⌝ }
+{
+    let start = from.offset;
+    if s.len() - start < 65 {
+        let found = start + tail_agent(&s[start..]);
+        return Place { offset: found };
+    }
+    let few = start + 6;
+    let near = near_agent(&s[start..few]);
+    if near < 6 {
+        let found = start + near;
+        return Place { offset: found };
+    }
+    let on = start + 5;
+    far_agent(s, Place { offset: on })
 }
 
 // What 64 octets hold: whether only comments and blank lines begin behind them, and the line endings that they close.

@@ -1,220 +1,117 @@
--- `lines::skip::next_agent` meets its contract: what is left gives the whole. Assumes nothing.
-use Prim.Native.Nat.{ℕ, _+_, _-_, _<_}
-use mathlib.Core.Path.{_≡_, refl, sym, ap, _∙_}
+-- `lines::skip::next_agent` meets its contract: what is near, or what is behind that, gives the whole. Assumes nothing.
+use Prim.Native.Nat.{ℕ, _+_, _-_}
+use mathlib.Core.Path.{_≡_, ap, _∙_}
 use mathlib.Core.List.{List}
 use native.Mathlib.Omega.{arith}
-use lib.ListN.{length, drop, length-take, length-drop}
-use borrow.Author.Tests.{not-true, not-false}
+use lib.ListN.{drop, length-take, length-drop}
 use Rattle.lists.proofs.Scans.{rest-of}
 use Rattle.protocol.specs.Lines.{placeAt}
 use Rattle.lines.specs.Skips.{pairs, agentFront}
 use Rattle.lines.proofs.Pairs.{pairs-rest}
-use Rattle.lines.proofs.Skips.{front-inside, front-past, front-fits}
+use Rattle.lines.proofs.Skips.{front-near, front-behind, front-fits}
 use Rattle.lines.proofs.skip.next_agent.Statement.{statement}
 use Rattle.lines.proofs.skip.next_agent.Tie as tie
 
-abbrev Inv-loop : tie.InvT-loop
-Inv-loop s i₀ i = (i < length s) × (i + agentFront (drop i (pairs s)) ≡ i₀ + agentFront (drop i₀ (pairs s)))
-
-abbrev μ-loop : tie.MeasureT-loop
-μ-loop s i₀ i = length s - i
-
-loop-holds : tie.Need-loop-holds Inv-loop μ-loop
-loop-holds c = omega arith
-
-sub-loop : tie.Need-sub-loop Inv-loop μ-loop
-sub-loop c = omega arith
-
-add-b : tie.Need-add-b Inv-loop μ-loop
-add-b c = omega arith
-
-sub-b : tie.Need-sub-b Inv-loop μ-loop
-sub-b c = omega arith
-
-part-b-start : tie.Need-part-b-start Inv-loop μ-loop
-part-b-start c = omega arith
-
-part-b-end : tie.Need-part-b-end Inv-loop μ-loop
-part-b-end c = omega arith
-
-add-behind : tie.Need-add-behind Inv-loop μ-loop
-add-behind c = omega arith
-
-add-behind-2 : tie.Need-add-behind-2 Inv-loop μ-loop
-add-behind-2 c = omega arith
-
-sub-behind : tie.Need-sub-behind Inv-loop μ-loop
-sub-behind c = omega arith
-
-part-behind-start : tie.Need-part-behind-start Inv-loop μ-loop
-part-behind-start c = omega arith
-
-part-behind-end : tie.Need-part-behind-end Inv-loop μ-loop
-part-behind-end c = omega arith
-
-is-quiet-requires : tie.Need-is-quiet-requires Inv-loop μ-loop
-is-quiet-requires c κs = simp (length-take, length-drop) (omega arith)
-
--- the text, and where the search has come to
-module _ (c : tie.At-loop Inv-loop μ-loop) where
-  abbrev start : tie.Start Inv-loop μ-loop
-  start = c .before .before
-
+-- the text, and where the search begins
+module _ (c : tie.Start) where
   abbrev text : List ℕ
-  text = start .args .s .now
+  text = c .args .s .now
 
-  abbrev i : ℕ
-  i = c .loop .i
+  abbrev start : ℕ
+  start = c .args .from .offset
 
-  abbrev sizes : (i + 64 - i ≡ 64) × (i + 65 - (i + 1) ≡ 64)
-  sizes = (omega arith, omega arith)
+sub-if1 : tie.Need-sub-if1
+sub-if1 c = omega arith
 
--- the block there, looked at
-module _ (c : tie.After-is-quiet Inv-loop μ-loop) where
-  abbrev turn : tie.At-loop Inv-loop μ-loop
-  turn = c .before .before .before .before
+sub-tail-agent : tie.Need-sub-tail-agent
+sub-tail-agent c = omega arith
 
-front-agent-requires : tie.Need-front-agent-requires Inv-loop μ-loop
-front-agent-requires c κs =
-    let q = c .before in (
-      simp (length-take, length-drop) (omega arith),
-      simp (length-take, length-drop) (omega arith),
-      sym (q .is-quiet .ensures) ∙ not-true (q .is-quiet .result) (c .if1 .taken),
-    )
+part-tail-agent-start : tie.Need-part-tail-agent-start
+part-tail-agent-start c = omega arith
 
--- there is an agent line
-found : (c : tie.After-front-agent Inv-loop μ-loop)
-    → let l = turn (c .before .before) in c .front-agent .result ≡ agentFront (drop (i l) (pairs (text l)))
-found c =
-    let q = c .before .before in
-    let l = turn q in
-    c .front-agent .ensures
-    ∙ front-inside (text l) (i l) 64 _ _ (sizes l .0) (sizes l .1) (sym (q .is-quiet .ensures) ∙ not-true (q .is-quiet .result) (c .before .if1 .taken))
+part-tail-agent-end : tie.Need-part-tail-agent-end
+part-tail-agent-end c = omega arith
 
-add-found : tie.Need-add-found Inv-loop μ-loop
-add-found c = let l = turn (c .before .before) in omega (arith, found c, front-fits (text l) (i l))
+tail-agent-requires : tie.Need-tail-agent-requires
+tail-agent-requires c κs = simp (length-take, length-drop) (omega arith)
 
-add-found-2 : tie.Need-add-found-2 Inv-loop μ-loop
-add-found-2 c = let l = turn (c .before .before) in omega (arith, found c, front-fits (text l) (i l))
+-- few octets are left
+module _ (c : tie.After-tail-agent) where
+  abbrev tail : tie.Start
+  tail = c .before .before .before .before
 
-returns : tie.Need-returns Inv-loop μ-loop
-returns c = ap placeAt (omega (arith, found c, turn (c .before .before) .loop .inv .1))
+  tail-found : c .tail-agent .result ≡ agentFront (drop (start tail) (pairs (text tail))) + 1
+  tail-found = rw (rest-of (start tail) (text tail), pairs-rest (text tail) (start tail)) at (c .tail-agent .ensures)
 
-add-i : tie.Need-add-i Inv-loop μ-loop
-add-i c = omega arith
+add-found : tie.Need-add-found
+add-found c = omega (arith, tail-found c, front-fits (text (tail c)) (start (tail c)))
 
-loop-less : tie.Need-loop-less Inv-loop μ-loop
-loop-less c = omega arith
+returns : tie.Need-returns
+returns c = ap placeAt (omega (arith, tail-found c))
 
-loop-again : tie.Need-loop-again Inv-loop μ-loop
-loop-again c =
-    let q = c .before in
-    let l = turn q in
-    let off = sym (q .is-quiet .ensures) ∙ not-false (q .is-quiet .result) (c .if1 .left) in
-    omega (arith, l .loop .inv .1, front-past (text l) (i l) 64 _ _ (sizes l .0) (sizes l .1) (omega arith) off)
+add-few : tie.Need-add-few
+add-few c = omega arith
 
-sub-last : tie.Need-sub-last Inv-loop μ-loop
-sub-last c = omega arith
+sub-near-agent : tie.Need-sub-near-agent
+sub-near-agent c = omega arith
 
-sub-is-quiet : tie.Need-sub-is-quiet Inv-loop μ-loop
-sub-is-quiet c = omega arith
+part-near-agent-start : tie.Need-part-near-agent-start
+part-near-agent-start c = omega arith
 
-part-is-quiet-start : tie.Need-part-is-quiet-start Inv-loop μ-loop
-part-is-quiet-start c = omega arith
+part-near-agent-end : tie.Need-part-near-agent-end
+part-near-agent-end c = omega arith
 
-part-is-quiet-end : tie.Need-part-is-quiet-end Inv-loop μ-loop
-part-is-quiet-end c = omega arith
+near-agent-requires : tie.Need-near-agent-requires
+near-agent-requires c κs = simp (length-take, length-drop) (omega arith)
 
-add-is-quiet : tie.Need-add-is-quiet Inv-loop μ-loop
-add-is-quiet c = omega arith
+-- the next six are looked at
+module _ (c : tie.After-near-agent) where
+  abbrev near : tie.Start
+  near = c .before .before .before .before
 
-sub-is-quiet-2 : tie.Need-sub-is-quiet-2 Inv-loop μ-loop
-sub-is-quiet-2 c = omega arith
+  abbrev six : start near + 6 - start near ≡ 5 + 1
+  six = omega arith
 
-part-is-quiet-start-2 : tie.Need-part-is-quiet-start-2 Inv-loop μ-loop
-part-is-quiet-start-2 c = omega arith
+add-found-2 : tie.Need-add-found-2
+add-found-2 c = omega arith
 
-part-is-quiet-end-2 : tie.Need-part-is-quiet-end-2 Inv-loop μ-loop
-part-is-quiet-end-2 c = omega arith
-
-is-quiet-requires-2 : tie.Need-is-quiet-requires-2 Inv-loop μ-loop
-is-quiet-requires-2 c κs = simp (length-take, length-drop) (omega arith)
-
--- the octets that are left
-module _ (c : tie.After-is-quiet2 Inv-loop μ-loop) where
-  abbrev end : tie.At-loop Inv-loop μ-loop
-  end = c .before .before .before .before
-
-returns-2 : tie.Need-returns-2 Inv-loop μ-loop
+returns-2 : tie.Need-returns-2
 returns-2 c =
-    let l = end (c .before) in
-    let k = length (text l) - 1 - i l in
-    let off = sym (c .before .is-quiet2 .ensures) ∙ c .if2 .taken in
-    let past = front-past (text l) (i l) k k (length (text l) - (i l + 1)) refl (omega arith) (omega arith) off in
-    ap placeAt (omega (arith, l .loop .inv .1, past, front-fits (text l) (i l + k)))
+    let l = c .before in
+    let n = near l in
+    ap placeAt (omega (arith, l .near-agent .ensures, front-near (text n) (start n) 5 _ (six l) (omega arith) (omega (arith, l .near-agent .ensures))))
 
-sub-last-agent : tie.Need-sub-last-agent Inv-loop μ-loop
-sub-last-agent c = omega arith
+add-on : tie.Need-add-on
+add-on c = omega arith
 
-part-last-agent-start : tie.Need-part-last-agent-start Inv-loop μ-loop
-part-last-agent-start c = omega arith
+far-agent-requires : tie.Need-far-agent-requires
+far-agent-requires c κs = omega arith
 
-part-last-agent-end : tie.Need-part-last-agent-end Inv-loop μ-loop
-part-last-agent-end c = omega arith
-
-last-agent-requires : tie.Need-last-agent-requires Inv-loop μ-loop
-last-agent-requires c κs = simp (length-take, length-drop) (omega arith)
-
-last-found : (c : tie.After-last-agent Inv-loop μ-loop)
-    → let l = end (c .before .before .before) in c .last-agent .result ≡ agentFront (drop (i l) (pairs (text l))) + 1
-last-found c =
-    let l = end (c .before .before .before) in
-    rw (rest-of (i l) (text l), pairs-rest (text l) (i l)) at (c .last-agent .ensures)
-
-add-found-3 : tie.Need-add-found-3 Inv-loop μ-loop
-add-found-3 c = let l = end (c .before .before .before) in omega (arith, last-found c, front-fits (text l) (i l))
-
-returns-3 : tie.Need-returns-3 Inv-loop μ-loop
-returns-3 c = ap placeAt (omega (arith, last-found c, end (c .before .before .before) .loop .inv .1))
+returns-3 : tie.Need-returns-3
+returns-3 c =
+    let l = c .before .before in
+    let n = near l in
+    let behind = front-behind (text n) (start n) 5 _ (six l) (omega arith) (omega (arith, l .near-agent .ensures)) in
+    c .far-agent .ensures ∙ ap placeAt (omega (arith, behind))
 
 pub next-agent-spec : {M : Type 1} → statement M
 next-agent-spec =
     tie.close
     (tie.spec
-    Inv-loop
-    μ-loop
-    loop-holds
-    sub-loop
-    add-b
-    sub-b
-    part-b-start
-    part-b-end
-    add-behind
-    add-behind-2
-    sub-behind
-    part-behind-start
-    part-behind-end
-    is-quiet-requires
-    front-agent-requires
+    sub-if1
+    sub-tail-agent
+    part-tail-agent-start
+    part-tail-agent-end
+    tail-agent-requires
     add-found
-    add-found-2
     returns
-    add-i
-    loop-less
-    loop-again
-    sub-last
-    sub-is-quiet
-    part-is-quiet-start
-    part-is-quiet-end
-    add-is-quiet
-    sub-is-quiet-2
-    part-is-quiet-start-2
-    part-is-quiet-end-2
-    is-quiet-requires-2
+    add-few
+    sub-near-agent
+    part-near-agent-start
+    part-near-agent-end
+    near-agent-requires
+    add-found-2
     returns-2
-    sub-last-agent
-    part-last-agent-start
-    part-last-agent-end
-    last-agent-requires
-    add-found-3
+    add-on
+    far-agent-requires
     returns-3)

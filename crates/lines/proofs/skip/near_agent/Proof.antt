@@ -1,4 +1,4 @@
--- `lines::skip::last_agent` meets its contract: what is left gives the whole. Assumes nothing.
+-- `lines::skip::near_agent` meets its contract: what is left gives the whole. Assumes nothing.
 use Prim.Native.Nat.{ℕ, _+_, _-_, _<_}
 use mathlib.Core.Path.{_≡_, sym, ap, ap₂, _∙_}
 use mathlib.Core.Bool.{Bool, false, _&&_}
@@ -10,8 +10,8 @@ use Rattle.lists.proofs.Scans.{scan-none}
 use Rattle.lines.specs.Skips.{agentOctet, pairs, opens, agentFront}
 use Rattle.lines.proofs.Pairs.{pairs-length, pairs-next}
 use Rattle.lines.proofs.Skips.{front-here, front-on}
-use Rattle.lines.proofs.skip.last_agent.Statement.{statement}
-use Rattle.lines.proofs.skip.last_agent.Tie as tie
+use Rattle.lines.proofs.skip.near_agent.Statement.{statement}
+use Rattle.lines.proofs.skip.near_agent.Tie as tie
 
 abbrev Inv-loop : tie.InvT-loop
 Inv-loop s i₀ i = (i < length s) × (i + agentFront (drop i (pairs s)) ≡ agentFront (pairs s))
@@ -90,8 +90,8 @@ returns-2 c =
     let s = l .before .before .args .s .now in
     omega (arith, l .loop .inv .1, pairs-length s, scan-none (opens agentOctet) (pairs s) (l .loop .i) (0, 0) (omega (arith, pairs-length s)))
 
-pub last-agent-spec : {M : Type 1} → statement M
-last-agent-spec =
+pub near-agent-spec : {M : Type 1} → statement M
+near-agent-spec =
     tie.close
     (tie.spec
     Inv-loop
