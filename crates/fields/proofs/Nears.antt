@@ -1,18 +1,18 @@
--- The head of a line that begins with a name, or with an octet that is neither space nor tab. Assumes nothing.
+-- The head of a line that begins with a name behind its spaces and tabs, or with an octet that is neither of these. Assumes nothing.
 use Prim.Native.Nat.{ℕ, suc, _+_, _-_, _≤_}
 use mathlib.Core.Path.{_≡_, refl, sym, ap, _∙_}
-use mathlib.Core.Bool.{true, false, _&&_}
+use mathlib.Core.Bool.{true, false, not, _&&_}
 use mathlib.Core.List.{List, [], _∷_}
 use native.Mathlib.Omega.{arith}
-use lib.Dec.{leb}
+use lib.Dec.{leb, eqb}
 use lib.ListN.{length, take, drop, getD}
 use lib.Seq.{drop-drop}
-use borrow.Author.Tests.{lt-leb}
+use borrow.Author.Tests.{lt-leb, leb-true}
 use types.Run.{OneOf, hit, miss}
 use denote.Enum.Declared.{tagOf}
 use Rattle.lists.specs.Choice.{if_then_else_}
 use Rattle.lists.specs.Lists.{upTo, from, same}
-use Rattle.lists.proofs.Bools.{split, and-left}
+use Rattle.lists.proofs.Bools.{split, and-left, and-right}
 use Rattle.lists.proofs.Scans.{rest-of, drop-one, drop-upTo}
 use Rattle.protocol.specs.declared.Place.{Place}
 use Rattle.protocol.specs.Octets.{is, blank, lineEnd}
@@ -23,7 +23,7 @@ use Rattle.fields.specs.declared.Field.{Field}
 use Rattle.fields.specs.declared.Head.{Head}
 use Rattle.fields.specs.Fields.{headAt, valueStart, headOf}
 use Rattle.fields.specs.Names.{nameLength, beginsName, fieldAt}
-use Rattle.fields.specs.Near.{nearValue, agentOf, agentOnly}
+use Rattle.fields.specs.Near.{nearValue, toldBy, agentOf, agentOnly}
 use Rattle.fields.proofs.Field as F
 use Rattle.fields.proofs.Heads.{Known, field-begins, agent-told, field-known, head-other, head-some}
 use Rattle.fields.proofs.Sorts.{colon-solid, plain, plain-same}
@@ -86,22 +86,46 @@ not-agent Field.Allow h o = refl
 not-agent Field.Disallow h o = refl
 not-agent Field.Other h o = refl
 
-module _ (r : List ℕ) where
-  whole : (f : Field) → f ≡ fieldAt r → f ≡ fieldAt (take (length r - 0) (drop 0 r))
-  whole f k = k ∙ ap fieldAt (sym (rest-of 0 r))
+-- a known field's head is told by the place of its value
+pub told-known : (f : Field) (v : ℕ) → Known f → toldBy f v ≡ not (eqb v 0)
+told-known Field.Agent v k = refl
+told-known Field.Allow v k = refl
+told-known Field.Disallow v k = refl
+told-known Field.Other v k = absurd (miss (0 ∷ 1 ∷ 2 ∷ []) 3 tt k)
 
+-- a value that is near begins at most two octets behind the colon's place
+pub near-most : (k v : ℕ) (l : List ℕ) → v ≡ nearValue k l → v ≤ k + 2
+near-most k v l e =
+    split (begins ":" l && leb (lead (drop 1 l)) 1)
+    (λ b.
+    let found : v ≡ k + 1 + lead (drop 1 l) = e ∙ rw b in
+    omega (arith, found, leb-true (lead (drop 1 l)) 1 (and-right (begins ":" l) (leb (lead (drop 1 l)) 1) b)))
+    (λ b. let none : v ≡ 0 = e ∙ rw b in omega (arith, none))
+
+module _ (r : List ℕ) where
   -- no field that is known
   pub near-other : (f : Field) → f ≡ fieldAt r → f ≡ Field.Other → lead r ≡ 0 → record { field = Field.Other; value = placeAt 0 } ≡ headOf r
-  near-other f k o e = head-other r 0 f (sym e) (whole f k) o
+  near-other f k o e = head-other r 0 f (sym e) (k ∙ ap fieldAt (sym (rest-of 0 r))) o
+
+  -- a known field of the text l behind the spaces and tabs in front; its value begins at m
+  pub near-from : (start : ℕ) (l : List ℕ) (f : Field) (k v m : ℕ) → start ≡ lead r → l ≡ drop start r → f ≡ fieldAt l → Known f → k ≡ nameLength f
+      → v ≡ nearValue k (drop k l) → (v ≡ 0 → ⊥) → m ≡ start + v → record { field = f; value = placeAt m } ≡ headOf r
+  near-from start l f k v m led part told known size value near moved =
+      let found = near-told k v (drop k l) value near in
+      let here : drop k l ≡ drop (start + k) r = ap (drop k) part ∙ drop-drop k start r in
+      let next : drop 1 (drop k l) ≡ drop (start + k + 1) r = ap (drop 1) here ∙ drop-drop 1 (start + k) r in
+      let colon : start + k ≡ start + k + lead (take (length r - (start + k)) (drop (start + k) r)) =
+      omega (arith, ap lead (rest-of (start + k) r), ap lead here, colon-lead (drop k l) (found .0)) in
+      let behind : m ≡ start + k + 1 + lead (take (length r - (start + k + 1)) (drop (start + k + 1) r)) =
+      omega (arith, moved, found .1, ap lead next, ap lead (rest-of (start + k + 1) r)) in
+      head-some r start f led (told ∙ ap fieldAt (part ∙ sym (rest-of start r))) (start + k) (start + k) (ap (λ (n : ℕ). start + n) size) colon m
+      (ap (begins ":") (sym here) ∙ found .0) known behind
 
   pub near-head : (f : Field) (k v : ℕ) → f ≡ fieldAt r → Known f → k ≡ nameLength f → v ≡ nearValue k (drop k r) → (v ≡ 0 → ⊥)
       → record { field = f; value = placeAt v } ≡ headOf r
   near-head f k v told known size value near =
-      let found = near-told k v (drop k r) value near in
       let named : beginsName f r ≡ true = rw (← told) at (field-begins r) in
-      let colon : k ≡ k + lead (take (length r - k) (drop k r)) = omega (arith, ap lead (rest-of k r), colon-lead (drop k r) (found .0)) in
-      let behind : v ≡ k + 1 + lead (take (length r - (k + 1)) (drop (k + 1) r)) = found .1 ∙ rw (rest-of (k + 1) r, drop-drop 1 k r) in
-      head-some r 0 f (sym (known-lead f r known named)) (whole f told) k k (omega arith) colon v (found .0) known behind
+      near-from 0 r f k v v (sym (known-lead f r known named)) refl told known size value near (omega arith)
 
   -- an agent's head, and that of a line that doesn't begin with the agent's name
   pub near-agent : (v : ℕ) → beginsName Field.Agent r ≡ true → v ≡ nearValue 10 (drop 10 r) → (v ≡ 0 → ⊥)

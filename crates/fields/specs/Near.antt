@@ -1,9 +1,9 @@
 -- The names of the fields eight octets at a time, and heads that are told from a line's first octets. Assumes nothing.
 use Prim.Native.Nat.{ℕ, _+_, _-_}
-use mathlib.Core.Bool.{Bool, _&&_}
+use mathlib.Core.Bool.{Bool, true, not, _&&_}
 use mathlib.Core.List.{List, _++_, map}
 use lib.Bits.{bitOr}
-use lib.Dec.{leb}
+use lib.Dec.{leb, eqb}
 use lib.ListN.{length, take, drop, replicate}
 use Rattle.lists.specs.Choice.{if_then_else_}
 use Rattle.lists.specs.Lists.{same}
@@ -38,6 +38,16 @@ wordBegins f l = same (take (length (nameFront f)) l) (nameFront f)
 -- where the value begins, if a text begins with a colon and at most one space or tab stands behind it: else 0
 abbrev pub nearValue : ℕ → List ℕ → ℕ
 nearValue colon l = if begins ":" l && leb (lead (drop 1 l)) 1 then colon + 1 + lead (drop 1 l) else 0
+
+-- a head is told: it isn't a known field without a value's place
+abbrev pub toldBy : Field → ℕ → Bool
+toldBy Field.Agent v = not (eqb v 0)
+toldBy Field.Allow v = not (eqb v 0)
+toldBy Field.Disallow v = not (eqb v 0)
+toldBy Field.Other v = true
+
+abbrev pub isTold : Head → Bool
+isTold h = toldBy (h .field) (h .value .offset)
 
 -- a head of an agent line; any other is as that of a line without a known field
 abbrev pub agentOf : Field → Head → Head

@@ -1,15 +1,17 @@
-// The head of a line in a file, told sooner than by `head_of` where the line is written as most are: not indented, the colon right behind the
-// name, and at most one space or tab behind it.
+// The head of a line in a file, told sooner than by `head_of` where the line is written as most are: the colon right behind the name, and at
+// most one space or tab behind it.
 
 ghost use mathlib.Core.Path.{_≡_};
+ghost use mathlib.Core.Bool.{true};
 ghost use Prim.Native.Nat.{_+_, _≤_};
 ghost use lib.ListN.{length, take, drop};
 ghost use Rattle.protocol.specs.Classes.{classTable};
+ghost use Rattle.protocol.specs.Text.{lead};
 ghost use Rattle.words.specs.Words.{octetsOf};
 ghost use Rattle.fields.specs.declared.Field.{Field};
 ghost use Rattle.fields.specs.Fields.{headOf};
 ghost use Rattle.fields.specs.Names.{beginsName, fieldAt};
-ghost use Rattle.fields.specs.Near.{nameWord, keptWord, folded, wordBegins, nearValue, agentOnly};
+ghost use Rattle.fields.specs.Near.{nameWord, keptWord, folded, wordBegins, nearValue, isTold, agentOnly};
 use crate::Field;
 use crate::Head;
 use protocol::ClassTable;
@@ -109,6 +111,44 @@ fn near_value(classes: &ClassTable, r: &[u8], colon: usize) -> usize
     0
 }
 
+// The head of a line that is indented by so many octets, if those behind them tell it: else a known field, and 0 as the place of its value. It
+// leaves `head_of` to its callers, so that the compiler needn't hand it the text in memory, at each line.
+fn indented(classes: &ClassTable, r: &[u8], start: usize) -> Head
+    requires { ⌜ (now classes ≡ classTable) × (start ≡ lead (now r)) ⌝ }
+    ensures { λ h. ⌜ (isTold h ≡ true → h ≡ headOf (now (r .entry))) ⌝ }
+{
+    let rest = &r[start..];
+    if 13 <= rest.len() {
+        let field = field_in(classes, rest);
+        if let Field::Other = field {
+            return crate::no_head();
+        }
+        let value = near_value(classes, rest, crate::name_length(field));
+        if value != 0 {
+            let moved = start + value;
+            return Head {
+                field,
+                value: Place { offset: moved },
+            };
+        }
+    }
+    Head {
+        field: Field::Agent,
+        value: Place { offset: 0 },
+    }
+}
+
+// A head is told: it isn't a known field without a value's place.
+fn is_told(head: Head) -> bool
+    ensures { λ r. ⌜ r ≡ isTold head ⌝ }
+{
+    let field = head.field;
+    if let Field::Other = field {
+        return true;
+    }
+    head.value.offset != 0
+}
+
 // The head of the line that a text begins with. Its first octet isn't read by itself: the compiler would then put the word together from octets,
 // at each line.
 pub fn head_in(classes: &ClassTable, r: &[u8]) -> Head
@@ -118,8 +158,13 @@ pub fn head_in(classes: &ClassTable, r: &[u8]) -> Head
     if 13 <= r.len() {
         let field = field_in(classes, r);
         if let Field::Other = field {
-            if text::lead(classes, r) == 0 {
+            let start = text::lead(classes, r);
+            if start == 0 {
                 return crate::no_head();
+            }
+            let head = indented(classes, r, start);
+            if is_told(head) {
+                return head;
             }
         } else {
             let value = near_value(classes, r, crate::name_length(field));
@@ -160,8 +205,15 @@ pub fn agent_head(classes: &ClassTable, r: &[u8]) -> Head
                     value: Place { offset: value },
                 };
             }
-        } else if !octets::is_of(classes, Sort::Blank, r[0]) {
-            return crate::no_head();
+        } else {
+            if !octets::is_of(classes, Sort::Blank, r[0]) {
+                return crate::no_head();
+            }
+            let start = text::lead(classes, r);
+            let head = indented(classes, r, start);
+            if is_told(head) {
+                return agent_only(head);
+            }
         }
     }
     agent_only(crate::head_of(classes, r))

@@ -51,14 +51,31 @@ returns-2 c =
     ∙ not-agent-head (text (other .before)) (told (other .before) ∙ other .if2 .left)
     (sym (seen .is-of .ensures) ∙ not-true (seen .is-of .result) (c .before .if4 .taken))
 
-head-of-requires : tie.Need-head-of-requires
-head-of-requires c κs = search needs
+lead-requires : tie.Need-lead-requires
+lead-requires c κs = search needs
+
+indented-requires : tie.Need-indented-requires
+indented-requires c κs = search needs
+
+is-told-requires : tie.Need-is-told-requires
+is-told-requires c κs = search needs
 
 agent-only-requires : tie.Need-agent-only-requires
 agent-only-requires c κs = search needs
 
 returns-3 : tie.Need-returns-3
-returns-3 c = c .agent-only .ensures ∙ ap agentOnly (c .before .head-of .ensures)
+returns-3 c =
+    let told = c .before .before in
+    c .agent-only .ensures ∙ ap agentOnly (told .before .indented .ensures (sym (told .is-told .ensures) ∙ c .before .if5 .taken))
+
+head-of-requires : tie.Need-head-of-requires
+head-of-requires c κs = search needs
+
+agent-only-requires-2 : tie.Need-agent-only-requires-2
+agent-only-requires-2 c κs = search needs
+
+returns-4 : tie.Need-returns-4
+returns-4 c = c .agent-only2 .ensures ∙ ap agentOnly (c .before .head-of .ensures)
 
 pub agent-head-spec : {M : Type 1} → statement M
 agent-head-spec =
@@ -72,6 +89,11 @@ agent-head-spec =
     is-of-requires
     no-head-requires
     returns-2
-    head-of-requires
+    lead-requires
+    indented-requires
+    is-told-requires
     agent-only-requires
-    returns-3)
+    returns-3
+    head-of-requires
+    agent-only-requires-2
+    returns-4)

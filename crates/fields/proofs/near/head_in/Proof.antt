@@ -42,6 +42,15 @@ returns c =
     ∙ near-other (text f) (field f) (f .field-in .ensures) (other .enum-told .given .1)
     (sym (seen .lead .ensures) ∙ c .before .if2 .taken)
 
+indented-requires : tie.Need-indented-requires
+indented-requires c κs = let led = c .before in (start (led .before .before .before) .pre, led .lead .ensures)
+
+is-told-requires : tie.Need-is-told-requires
+is-told-requires c κs = search needs
+
+returns-2 : tie.Need-returns-2
+returns-2 c = let told = c .before in told .before .indented .ensures (sym (told .is-told .ensures) ∙ c .if3 .taken)
+
 name-length-requires : tie.Need-name-length-requires
 name-length-requires c κs = search needs
 
@@ -50,18 +59,18 @@ near-value-requires c κs =
     let f = c .before .before in
     (start f .pre, omega (arith, c .name-length .ensures, name-most (field f), f .before .if1 .taken))
 
-returns-2 : tie.Need-returns-2
-returns-2 c =
+returns-3 : tie.Need-returns-3
+returns-3 c =
     let value = c .before in
     let size = value .before in
     let f = size .before .before in
-    near-head (text f) (field f) (size .name-length .result) (value .near-value .result) (f .field-in .ensures) (size .before .match .keys2) (size .name-length .ensures) (value .near-value .ensures) (c .if3 .taken)
+    near-head (text f) (field f) (size .name-length .result) (value .near-value .result) (f .field-in .ensures) (size .before .match .keys2) (size .name-length .ensures) (value .near-value .ensures) (c .if4 .taken)
 
 head-of-requires : tie.Need-head-of-requires
 head-of-requires c κs = search needs
 
-returns-3 : tie.Need-returns-3
-returns-3 c = search needs
+returns-4 : tie.Need-returns-4
+returns-4 c = search needs
 
 pub head-in-spec : {M : Type 1} → statement M
 head-in-spec =
@@ -72,8 +81,11 @@ head-in-spec =
     lead-requires
     no-head-requires
     returns
+    indented-requires
+    is-told-requires
+    returns-2
     name-length-requires
     near-value-requires
-    returns-2
+    returns-3
     head-of-requires
-    returns-3)
+    returns-4)
