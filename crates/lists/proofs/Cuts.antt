@@ -1,9 +1,14 @@
 -- Lists cut at the first element that passes one test, and then at the first that passes another. Assumes nothing.
+use Prim.Native.Nat.{ℕ, zero, suc, _≤_}
 use mathlib.Core.Path.{_≡_, refl, sym, ap, _∙_}
 use mathlib.Core.Bool.{Bool, true, false, _||_, or-true, true≢false, false≢true}
 use mathlib.Core.List.{List, [], _∷_, tail}
+use native.Mathlib.Omega.{arith}
+use lib.ListN.{length, drop}
 use Rattle.lists.specs.Lists.{any, upTo, from}
 use Rattle.lists.proofs.Bools.{split}
+use Rattle.lists.proofs.Parts.{upTo-stop, upTo-on}
+use Rattle.lists.proofs.Scans.{drop-upTo}
 
 module _ {A : Type 0} (f : A → Bool) where
   pub upTo-none : (l : List A) → any f l ≡ false → upTo f l ≡ l
@@ -72,7 +77,14 @@ module _ {A : Type 0} (f g : A → Bool) (with-g : (x : A) → f x ≡ true → 
   from-past [] = refl
   from-past (x ∷ l) = split (g x) (λ e. rw e) (λ e. rw (e, neither x e) (from-past l))
 
+  -- behind elements of which none passes g
+  pub any-behind : (n : ℕ) (l : List A) → n ≤ length (upTo g l) → any f (drop n l) ≡ any f l
+  unfolding any
+  any-behind zero l h = refl
+  any-behind (suc n) [] h = refl
+  any-behind (suc n) (x ∷ l) h =
+      split (g x) (λ e. absurd (omega (arith, h, ap length (upTo-stop g x l e))))
+      (λ e. rw (neither x e) (any-behind n l (omega (arith, h, ap length (upTo-on g x l e)))))
+
   pub any-past : (l : List A) → any f (from g l) ≡ any f l
-  unfolding from any
-  any-past [] = refl
-  any-past (x ∷ l) = split (g x) (λ e. rw e) (λ e. rw (e, neither x e) (any-past l))
+  any-past l = ap (any f) (sym (drop-upTo g l)) ∙ any-behind (length (upTo g l)) l (omega arith)

@@ -1,14 +1,14 @@
 -- Tests of lists, from one index to the next as a loop goes. Assumes nothing.
-use Prim.Native.Nat.{ℕ, zero, suc, _+_, _≤_, _<_}
-use mathlib.Core.Path.{_≡_, refl, sym, ap, ap₂}
-use mathlib.Core.Bool.{Bool, true, false, _&&_, and-true, and-false, and-assoc, false≢true}
+use Prim.Native.Nat.{ℕ, suc, _+_, _≤_, _<_}
+use mathlib.Core.Path.{_≡_, refl, ap, ap₂}
+use mathlib.Core.Bool.{Bool, true, false, and-true, and-false, false≢true}
 use mathlib.Core.Logic.{_↔_}
 use mathlib.Core.List.{List, [], _∷_}
 use native.Mathlib.Omega.{arith}
 use lib.Dec.{eqb}
-use lib.ListN.{length, take, drop, getD, drop-of-length-le}
+use lib.ListN.{length, drop, getD, drop-of-length-le}
 use borrow.Author.Tests.{eqb-true, eq-eqb, ne-eqb}
-use Rattle.lists.specs.Lists.{empty, all, any, same}
+use Rattle.lists.specs.Lists.{empty, any, same}
 use Rattle.lists.proofs.Bools.{and-left, and-right}
 use Rattle.lists.proofs.Scans.{drop-one}
 
@@ -38,14 +38,6 @@ module _ {A : Type 0} (f : A → Bool) (l : List A) (i : ℕ) where
     pub any-on : f (getD l i d) ≡ false → any f (drop i l) ≡ any f (drop (i + 1) l)
     unfolding any
     any-on e = rw (drop-one l i d h, e)
-
--- the elements of a front, and the one behind them
-module _ {A : Type 0} (f : A → Bool) (d : A) where
-  pub all-next : (n : ℕ) (l : List A) → n < length l → all f (take (suc n) l) ≡ (all f (take n l) && f (getD l n d))
-  unfolding all
-  all-next n [] h = absurd (omega arith)
-  all-next zero (x ∷ l) h = and-true (f x)
-  all-next (suc n) (x ∷ l) h = rw (all-next n l (omega arith)) (sym (and-assoc (f x) (all f (take n l)) (f (getD l n d))))
 
 -- the test of two lists is their equality
 same-known : (l m : List ℕ) → same l m ≡ true → l ≡ m

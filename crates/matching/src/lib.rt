@@ -34,7 +34,7 @@ fn walk_in(pattern: &[u8], path: &[u8], buffer: &mut [u8], scratch: &mut [u8]) -
     ensures { λ r. ⌜ r ≡ walk (shapeOf (now (pattern .entry))) (normalPath (now (path .entry))) ⌝ }
 {
     let n = normal::write(false, path, buffer);
-    walk::walk_pattern(pattern, &buffer[..n], scratch)
+    walk::walk_of(pattern, &buffer[..n], scratch)
 }
 
 // Room for a normalised path of at most 384 octets: to clear more would take longer than most walks.
@@ -74,10 +74,10 @@ fn walk_unchanged(pattern: &[u8], path: &[u8]) -> Walked
 {
     if path.len() <= 128 {
         let mut scratch = [0u8; 128];
-        return walk::walk_pattern(pattern, path, &mut scratch);
+        return walk::walk_of(pattern, path, &mut scratch);
     }
     let mut scratch = [0u8; 2048];
-    walk::walk_pattern(pattern, path, &mut scratch)
+    walk::walk_of(pattern, path, &mut scratch)
 }
 
 // The walk of a pattern and a path of which neither is refused.

@@ -11,9 +11,8 @@ use lib.Seq.{length-take-le, sets}
 use borrow.Author.Tests.{leb-true, lt-leb, ne-eqb}
 use Rattle.lists.specs.Lists.{all, any, upTo}
 use Rattle.lists.proofs.Bools.{split, and-left, and-right}
-use Rattle.lists.proofs.Scans.{upTo-fits, take-upTo, drop-upTo}
+use Rattle.lists.proofs.Scans.{upTo-fits, take-upTo}
 use Rattle.lists.proofs.Fronts.{upTo-clear, front-passes}
-use Rattle.lists.proofs.Cuts.{any-past}
 use Rattle.protocol.specs.Octets.{is}
 use Rattle.protocol.specs.Normal.{special, isEncoded, normal, normalPath}
 use Rattle.normal.specs.Literal.{literal, notLiteral}
@@ -73,12 +72,9 @@ module _ (stars : Bool) (s out : List ℕ) (n : ℕ) (copy : List ℕ) (e : (n �
       → (r ≡ length (upTo (isEncoded stars) s)) × (o ≡ sets out 0 (upTo (isEncoded stars) s))
   front-rest (f, g) = (omega (arith, f, literal-stored), g ∙ literal-stored .same)
 
--- no octet that is encoded stands in front of the first that isn't literal
-pub encoded-sought : (path : List ℕ) (i : ℕ) → i ≡ length (upTo notLiteral path) → any (isEncoded false) (drop i path) ≡ any (isEncoded false) path
-encoded-sought path i h = rw (h, drop-upTo notLiteral path) (any-past (isEncoded false) notLiteral other path)
-  where
-    other : (x : ℕ) → isEncoded false x ≡ true → notLiteral x ≡ true
-    other x e = split (literal x) (λ k. absurd (true≢false (sym e ∙ literal-kept x k false))) (λ k. ap not k)
+-- an octet that is encoded isn't literal
+pub encoded-other : (x : ℕ) → isEncoded false x ≡ true → notLiteral x ≡ true
+encoded-other x e = split (literal x) (λ k. absurd (true≢false (sym e ∙ literal-kept x k false))) (λ k. ap not k)
 
 -- a path without such an octet is its own normalised path
 pub kept-path : (path : List ℕ) → any (isEncoded false) path ≡ false → normalPath path ≡ path

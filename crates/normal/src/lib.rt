@@ -36,11 +36,12 @@ pub fn literal_front(s: &[u8]) -> usize
     end.offset
 }
 
-// Normalising may change a path: some octet doesn't stay as it is. Those behind the literal front are looked at one by one.
+// Normalising may change a path: some octet doesn't stay as it is. Literal ones in front are passed over eight at a time, and the others are
+// looked at one by one.
 pub fn may_change(path: &[u8]) -> bool
     ensures { λ r. ⌜ r ≡ any (isEncoded false) (now (path .entry)) ⌝ }
 {
-    let mut i = literal_front(path);
+    let mut i = text::clear_front(path, 0x2B, 0x7E, false);
     while i < path.len() {
         if !escapes::is_kept(false, path[i]) {
             return true;

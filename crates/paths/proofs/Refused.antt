@@ -5,13 +5,11 @@ use mathlib.Core.Bool.{Bool, true, not}
 use mathlib.Core.List.{List, [], _∷_}
 use native.Mathlib.Omega.{arith}
 use lib.Dec.{leb, eqb}
-use lib.ListN.{length, drop, getD}
+use lib.ListN.{length, getD}
 use borrow.Author.Tests.{eqb-true, eq-eqb, ne-eqb, lt-ltb, le-ltb, le-leb, leb-true, leb-false}
 use Rattle.lists.specs.Choice.{if_then_else_}
-use Rattle.lists.specs.Lists.{any, upTo}
+use Rattle.lists.specs.Lists.{any}
 use Rattle.lists.proofs.Bools.{split}
-use Rattle.lists.proofs.Scans.{drop-upTo}
-use Rattle.lists.proofs.Cuts.{any-past}
 use Rattle.protocol.specs.Text.{begins}
 use Rattle.protocol.specs.Normal.{normalPath}
 use Rattle.protocol.specs.Refusals.{outsidePath, noRoom, pathRows, refusal, normaliseRefusal}
@@ -43,16 +41,12 @@ module _ (path : List ℕ) (h : 0 < length path) (k : length path ≤ 2_048) whe
   path-octets b e f = path-else path h k ∙ rw (eq-eqb (getD path 0 0) 47 e, f)
 
 -- the octets that refuse a path are among those up to "#"
-low-outside : (x : ℕ) → outsidePath x ≡ true → among 0 35 true x ≡ true
+pub low-outside : (x : ℕ) → outsidePath x ≡ true → among 0 35 true x ≡ true
 unfolding outsidePath
 low-outside x h =
     let low : x ≤ 35 =
     split (leb x 0x20) (λ e. omega (arith, leb-true x 0x20 e)) (λ e. omega (arith, eqb-true x 35 (rw e at h)))
     in rw (le-leb 0 x (omega arith), le-leb x 35 low)
-
--- none stands in front of the first octet up to "#"
-pub outside-sought : (path : List ℕ) (i : ℕ) → i ≡ length (upTo (among 0 35 true) path) → any outsidePath (drop i path) ≡ any outsidePath path
-outside-sought path i h = rw (h, drop-upTo (among 0 35 true) path) (any-past outsidePath (among 0 35 true) low-outside path)
 
 -- a path that no row of its own refuses is refused for want of room
 module _ (room : ℕ) (path : List ℕ) where

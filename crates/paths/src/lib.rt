@@ -6,14 +6,12 @@ ghost use Rattle.protocol.specs.Refusals.{outsidePath, pathRows, refusal, norma
 ghost use Rattle.protocol.specs.Decision.{isRobotsFile};
 ghost use Rattle.protocol.specs.Answers.{normaliseOf, normaliseBuffer};
 use protocol::Normalised;
-use protocol::Place;
 
-// Some octet can't stand in a path. Most paths hold none up to "#", and many octets at a time are passed over up to the first.
+// Some octet can't stand in a path. All such octets are up to "#", and those in front without one are passed over eight at a time.
 fn holds_outside(path: &[u8]) -> bool
     ensures { λ r. ⌜ r ≡ any outsidePath (now (path .entry)) ⌝ }
 {
-    let low = text::seek(path, Place { offset: 0 }, 0, b'#', true);
-    let mut i = low.offset;
+    let mut i = text::clear_front(path, 0, b'#', true);
     while i < path.len() {
         if octets::is_outside_path(path[i]) {
             return true;

@@ -1,4 +1,3 @@
 pub mod Seeks
 pub mod Comparing
 pub mod Trims
-mod Eights

@@ -2,7 +2,7 @@
 use Prim.Native.Nat.{ℕ}
 use mathlib.Core.Bool.{Bool, false, not}
 use mathlib.Core.List.{List, [], _∷_}
-use lib.Dec.{ltb, eqb}
+use lib.Dec.{eqb}
 use lib.ListN.{length, drop}
 use Rattle.lists.specs.Choice.{if_then_else_}
 use Rattle.lists.specs.Lists.{upTo}
@@ -28,7 +28,3 @@ firstFrom f s p = placeAfter p (length (upTo f (drop (p .offset) s)))
 -- x is of the sort; where `inside` is false, it isn't
 abbrev pub sought : Sort → Bool → ℕ → Bool
 sought s inside x = if inside then isOf s x else not (isOf s x)
-
--- x is past CR and LF
-abbrev pub past : ℕ → Bool
-past x = ltb 13 x

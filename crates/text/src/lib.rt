@@ -6,12 +6,12 @@ ghost use mathlib.Core.Path.{_≡_};
 ghost use mathlib.Core.List.{map};
 ghost use Prim.Native.Nat.{_≤_};
 ghost use lib.ListN.{length, drop};
-ghost use Rattle.lists.specs.Lists.{all, any, upTo};
+ghost use Rattle.lists.specs.Lists.{any, upTo};
 ghost use Rattle.protocol.specs.Text.{lead, trimEnd};
 ghost use Rattle.protocol.specs.Octets.{lineEnd};
 ghost use Rattle.protocol.specs.Classes.{classTable};
 ghost use Rattle.words.specs.Words.{octetsOf, among, mark};
-ghost use Rattle.text.specs.Parts.{equals, opens, firstFrom, sought, past};
+ghost use Rattle.text.specs.Parts.{equals, opens, firstFrom, sought};
 use protocol::ClassTable;
 use protocol::Place;
 use protocol::Sort;
@@ -167,24 +167,11 @@ pub fn trimmed_length(classes: &ClassTable, s: &[u8]) -> usize
     n
 }
 
-// None of 8 octets is CR or less. All are looked at, so that the compiler can look at many at a time.
-fn is_past(b: &[u8]) -> bool
-    requires { ⌜ length (now b) ≡ 8 ⌝ }
-    ensures { λ r. ⌜ r ≡ all past (now (b .entry)) ⌝ }
-{
-    (b'\r' < b[0])
-        & (b'\r' < b[1])
-        & (b'\r' < b[2])
-        & (b'\r' < b[3])
-        & (b'\r' < b[4])
-        & (b'\r' < b[5])
-        & (b'\r' < b[6])
-        & (b'\r' < b[7])
-}
-
-// Octets at the front of which none is CR or LF: eights of them, and the last eight.
-fn past_front(s: &[u8]) -> usize
-    ensures { λ r. ⌜ (r ≤ length (now (s .entry))) × (any lineEnd (drop r (now (s .entry))) ≡ any lineEnd (now (s .entry))) ⌝ }
+// Octets at the front of which none is of that sort, eight at a time, the last eight once more, so that none are left over: all of them where
+// none is; else those in front of the first eight with one, or none of a text of less than eight.
+pub fn clear_front(s: &[u8], low: u8, high: u8, inside: bool) -> usize
+    requires { ⌜ (low ≤ 128) × (high ≤ 127) ⌝ }
+    ensures { λ r. ⌜ r ≤ length (upTo (among low high inside) (now (s .entry))) ⌝ }
 {
     if s.len() < 8 {
         return 0;
@@ -192,16 +179,15 @@ fn past_front(s: &[u8]) -> usize
     let last = s.len() - 8;
     let mut i = 0;
     while i < last {
-        let end = i + 8;
-        if !is_past(&s[i..end]) {
+        if words::marks(words::word_at(s, i), low, high, inside) != 0 {
             return i;
         }
-        i = end;
+        i += 8;
     }
-    if is_past(&s[last..]) {
-        return s.len();
+    if words::marks(words::word_at(s, last), low, high, inside) != 0 {
+        return i;
     }
-    i
+    s.len()
 }
 
 // Some octet is CR or LF.
@@ -209,7 +195,7 @@ pub fn holds_line_end(classes: &ClassTable, s: &[u8]) -> bool
     requires { ⌜ now classes ≡ classTable ⌝ }
     ensures { λ r. ⌜ r ≡ any lineEnd (now (s .entry)) ⌝ }
 {
-    let front = past_front(s);
+    let front = clear_front(s, 0, b'\r', true);
     let rest = &s[front..];
     scan(classes, rest, Sort::LineEnd, true) < rest.len()
 }

@@ -4,10 +4,12 @@ use mathlib.Core.Path.{_≡_, refl, sym, ap, _∙_}
 use mathlib.Core.Bool.{true, false, not, true≢false}
 use mathlib.Core.List.{List, [], _∷_, dropLast}
 use native.Mathlib.Omega.{arith}
+use lib.Dec.{eqb}
 use lib.ListN.{length}
 use Rattle.lists.specs.Lists.{empty, all, upTo}
 use Rattle.lists.proofs.Bools.{split, and-left, and-right}
 use Rattle.lists.proofs.Parts.{upTo-stop, upTo-on}
+use Rattle.lists.proofs.Scans.{all-found}
 use Rattle.protocol.specs.Text.{ends}
 use Rattle.protocol.specs.Normal.{normal}
 use Rattle.protocol.specs.Pattern.{rawText, shapeOf, weight, isStar, firstRun, laterRuns}
@@ -45,6 +47,10 @@ module _ (l : List ℕ) (h : all literal l ≡ true) where
   pub literal-weight : weight (shapeOf l) ≡ length l
   unfolding weight shapeOf rawText
   literal-weight = rw (literal-known l h .unmarked) (rw (literal-normal true l h) (omega arith))
+
+-- the literal octets in front, n of them, are all there are exactly where all are literal
+pub front-whole : (l : List ℕ) (n : ℕ) → n ≡ length (upTo notLiteral l) → eqb n (length l) ≡ all literal l
+front-whole l n h = rw h (all-found literal l)
 
 -- the literal octets in front of a pattern are in its first run, and so is what normalising leaves of them
 front-of-run : (l : List ℕ) → length (upTo notLiteral l) ≤ length (firstRun (normal true 0 l))

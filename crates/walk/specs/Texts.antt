@@ -38,6 +38,10 @@ scratchText endMark text path scratch =
 unfoldable pub walkScratch : List ℕ → List ℕ → List ℕ → List ℕ
 walkScratch pattern path scratch = scratchText (ends "$" pattern) (rawText pattern) path scratch
 
+-- the same where a pattern of literal octets is walked as it stands: it leaves the scratch untouched
+unfoldable pub scratchOf : List ℕ → List ℕ → List ℕ → List ℕ
+scratchOf pattern path scratch = if all literal pattern then scratch else walkScratch pattern path scratch
+
 -- the scratch after a raw pattern is weighed: untouched where the literal octets in front are more than the path's, or are all there are
 unfoldable pub weighScratch : List ℕ → List ℕ → List ℕ → List ℕ
 weighScratch pattern path scratch =

@@ -11,7 +11,7 @@ ghost use Rattle.protocol.specs.Pattern.{shapeOf, weight};
 ghost use Rattle.protocol.specs.Walk.{first, next, walk};
 ghost use Rattle.normal.specs.Runs.{normalRun, runScratch};
 ghost use Rattle.normal.specs.Literal.{literal};
-ghost use Rattle.walk.specs.Texts.{walkText, scratchText, walkScratch, weighScratch};
+ghost use Rattle.walk.specs.Texts.{walkText, scratchText, walkScratch, scratchOf, weighScratch};
 ghost use Rattle.walk.specs.Weights.{CountFits, weighedWalk, weighed};
 use normal::Written;
 use protocol::Walked;
@@ -92,6 +92,18 @@ pub fn walk_pattern(pattern: &[u8], path: &[u8], scratch: &mut [u8]) -> Walked
     let end = normal::text_length(pattern);
     let anchored = end < pattern.len();
     walk_text(&pattern[..end], anchored, path, scratch)
+}
+
+// The walk of a raw pattern: one of literal octets is one run as it stands, and isn't copied.
+pub fn walk_of(pattern: &[u8], path: &[u8], scratch: &mut [u8]) -> Walked
+    requires { ⌜ (length (now path) ≤ length (now scratch)) × CountFits (now pattern) (now path) ⌝ }
+    ensures { λ r. ⌜ r ≡ walk (shapeOf (now (pattern .entry))) (now (path .entry)) ⌝ }
+    ensures { λ _. ⌜ now (scratch .exit) ≡ scratchOf (now (pattern .entry)) (now (path .entry)) (now (scratch .entry)) ⌝ }
+{
+    if normal::literal_front(pattern) == pattern.len() {
+        return runs::first_run(pattern, path, false);
+    }
+    walk_pattern(pattern, path, scratch)
 }
 
 // What a walk comes to, for a pattern of that weight.

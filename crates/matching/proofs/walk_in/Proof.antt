@@ -18,15 +18,15 @@ write-requires : tie.Need-write-requires
 unfolding normalPath
 write-requires c κs = entry c .pre .0
 
-slice-reshare-prefix-walk-pattern : tie.Need-slice-reshare-prefix-walk-pattern
+slice-reshare-prefix-walk-of : tie.Need-slice-reshare-prefix-walk-of
 unfolding normalPath
-slice-reshare-prefix-walk-pattern c =
+slice-reshare-prefix-walk-of c =
     let w = c .before .before in omega (arith, w .write .ensures .0, w .write .kept .1 .1 .0, entry (w .before) .pre .0)
 
-slice-aggregate-walk-pattern : tie.Need-slice-aggregate-walk-pattern
-slice-aggregate-walk-pattern c = sym (length-take-le _ _ (slice-reshare-prefix-walk-pattern (c .before)))
+slice-aggregate-walk-of : tie.Need-slice-aggregate-walk-of
+slice-aggregate-walk-of c = sym (length-take-le _ _ (slice-reshare-prefix-walk-of (c .before)))
 
-module _ (c : tie.After-walk-pattern-arg2) where
+module _ (c : tie.After-walk-of-arg2) where
   abbrev written : tie.After-write
   written = c .before .before .before .before
 
@@ -38,8 +38,8 @@ module _ (c : tie.After-walk-pattern-arg2) where
   lent =
       front-read (normalPath (start .args .path .now)) (start .args .buffer .now) _ _ (written .write .ensures .0) (written .write .ensures .1)
 
-walk-pattern-requires : tie.Need-walk-pattern-requires
-walk-pattern-requires c κs = rw (lent c) (start c .pre .1, start c .pre .2)
+walk-of-requires : tie.Need-walk-of-requires
+walk-of-requires c κs = rw (lent c) (start c .pre .1, start c .pre .2)
 
 same-length : tie.Need-same-length
 same-length c = search needs
@@ -51,16 +51,16 @@ returns : tie.Need-returns
 returns c =
     let w = c .before .before in
     let t = w .before in
-    w .walk-pattern .ensures .0 ∙ ap (walk (shapeOf (start t .args .pattern .now))) (lent t)
+    w .walk-of .ensures .0 ∙ ap (walk (shapeOf (start t .args .pattern .now))) (lent t)
 
 pub walk-in-spec : {M : Type 1} → statement M
 walk-in-spec =
     tie.close
     (tie.spec
     write-requires
-    slice-reshare-prefix-walk-pattern
-    slice-aggregate-walk-pattern
-    walk-pattern-requires
+    slice-reshare-prefix-walk-of
+    slice-aggregate-walk-of
+    walk-of-requires
     same-length
     same-length-2
     returns)

@@ -8,10 +8,11 @@ use lib.ListN.{length, drop, getD}
 use borrow.Author.Tests.{not-true, not-false}
 use Rattle.lists.specs.Lists.{any}
 use Rattle.lists.proofs.Scans.{upTo-fits}
+use Rattle.lists.proofs.Cuts.{any-behind}
 use Rattle.lists.proofs.Tests.{any-end, any-here, any-on}
 use Rattle.protocol.specs.Normal.{isEncoded}
 use Rattle.normal.specs.Literal.{notLiteral}
-use Rattle.normal.proofs.Literal.{encoded-sought}
+use Rattle.normal.proofs.Literal.{encoded-other}
 use Rattle.normal.proofs.may_change.Statement.{statement}
 use Rattle.normal.proofs.may_change.Tie as tie
 
@@ -21,15 +22,16 @@ Inv-loop path i₀ i = (i ≤ length path) × (any (isEncoded false) (drop i pat
 abbrev μ-loop : tie.MeasureT-loop
 μ-loop path i₀ i = length path - i
 
-literal-front-requires : tie.Need-literal-front-requires Inv-loop μ-loop
-literal-front-requires c κs = tt
+clear-front-requires : tie.Need-clear-front-requires Inv-loop μ-loop
+clear-front-requires c κs = omega arith
 
-abbrev whole : tie.After-literal-front Inv-loop μ-loop → List ℕ
+abbrev whole : tie.After-clear-front Inv-loop μ-loop → List ℕ
 whole c = c .before .before .args .path .now
 
 loop-holds : tie.Need-loop-holds Inv-loop μ-loop
 loop-holds c =
-    (omega (arith, c .literal-front .ensures, upTo-fits notLiteral (whole c)), encoded-sought (whole c) _ (c .literal-front .ensures))
+    let clear = c .clear-front .ensures in
+    (omega (arith, clear, upTo-fits notLiteral (whole c)), any-behind (isEncoded false) notLiteral encoded-other _ (whole c) clear)
 
 shared-slice-read-is-kept : tie.Need-shared-slice-read-is-kept Inv-loop μ-loop
 shared-slice-read-is-kept c = omega arith
@@ -73,7 +75,7 @@ may-change-spec =
     (tie.spec
     Inv-loop
     μ-loop
-    literal-front-requires
+    clear-front-requires
     loop-holds
     shared-slice-read-is-kept
     is-kept-requires

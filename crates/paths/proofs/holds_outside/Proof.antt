@@ -1,18 +1,17 @@
 -- `paths::holds_outside` meets its contract: what is left holds such an octet if and only if the whole does. Assumes nothing.
 use Prim.Native.Nat.{ℕ, _-_, _≤_}
-use mathlib.Core.Path.{_≡_, sym, ap, _∙_}
+use mathlib.Core.Path.{_≡_, sym, _∙_}
 use mathlib.Core.Bool.{true}
 use mathlib.Core.List.{List}
 use native.Mathlib.Omega.{arith}
-use native.Mathlib.Nat.{zero-add}
 use lib.ListN.{length, drop}
 use Rattle.lists.specs.Lists.{any, upTo}
 use Rattle.lists.proofs.Scans.{upTo-fits}
+use Rattle.lists.proofs.Cuts.{any-behind}
 use Rattle.lists.proofs.Tests.{any-end, any-here, any-on}
-use Rattle.protocol.specs.declared.Place.{Place}
 use Rattle.protocol.specs.Refusals.{outsidePath}
 use Rattle.words.specs.Words.{among}
-use Rattle.paths.proofs.Refused.{outside-sought}
+use Rattle.paths.proofs.Refused.{low-outside}
 use Rattle.paths.proofs.holds_outside.Statement.{statement}
 use Rattle.paths.proofs.holds_outside.Tie as tie
 
@@ -22,19 +21,20 @@ Inv-loop path i₀ i = (i ≤ length path) × (any outsidePath (drop i path) ≡
 abbrev μ-loop : tie.MeasureT-loop
 μ-loop path i₀ i = length path - i
 
-seek-requires : tie.Need-seek-requires Inv-loop μ-loop
-seek-requires c κs = tt
+clear-front-requires : tie.Need-clear-front-requires Inv-loop μ-loop
+clear-front-requires c κs = omega arith
 
-module _ (c : tie.After-seek Inv-loop μ-loop) where
+module _ (c : tie.After-clear-front Inv-loop μ-loop) where
   abbrev whole : List ℕ
   whole = c .before .before .args .path .now
 
-  low-found : c .seek .result .offset ≡ length (upTo (among 0 35 true) whole)
-  low-found = ap (λ (p : Place). p .offset) (c .seek .ensures) ∙ zero-add _
+  -- no octet up to "#" is passed over
+  clear : c .clear-front .result ≤ length (upTo (among 0 35 true) whole)
+  clear = c .clear-front .ensures
 
 loop-holds : tie.Need-loop-holds Inv-loop μ-loop
 loop-holds c =
-    (omega (arith, low-found c, upTo-fits (among 0 35 true) (whole c)), outside-sought (whole c) _ (low-found c))
+    (omega (arith, clear c, upTo-fits (among 0 35 true) (whole c)), any-behind outsidePath (among 0 35 true) low-outside _ (whole c) (clear c))
 
 module _ (c : tie.At-loop Inv-loop μ-loop) where
   abbrev path : List ℕ
@@ -78,7 +78,7 @@ holds-outside-spec =
     (tie.spec
     Inv-loop
     μ-loop
-    seek-requires
+    clear-front-requires
     loop-holds
     shared-slice-read-is-outside-path
     is-outside-path-requires

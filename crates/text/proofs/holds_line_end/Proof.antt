@@ -1,22 +1,35 @@
--- `text::holds_line_end` meets its contract. Assumes nothing.
-use Prim.Native.Nat.{ℕ}
+-- `text::holds_line_end` meets its contract: no CR or LF is among the octets in front. Assumes nothing.
+use Prim.Native.Nat.{ℕ, _≤_}
 use mathlib.Core.Path.{ap, _∙_}
+use mathlib.Core.Bool.{true}
 use mathlib.Core.List.{List}
+use native.Mathlib.Omega.{arith}
+use lib.ListN.{length}
 use borrow.Author.Needs.{needs}
 use Rattle.lists.specs.Lists.{any}
-use Rattle.lists.proofs.Scans.{rest-of, any-found}
+use Rattle.lists.proofs.Scans.{rest-of, any-found, upTo-fits}
+use Rattle.lists.proofs.Cuts.{any-behind}
 use Rattle.protocol.specs.Octets.{lineEnd}
+use Rattle.words.specs.Words.{among}
+use Rattle.text.proofs.Seeks.{end-low}
 use Rattle.text.proofs.holds_line_end.Statement.{statement}
 use Rattle.text.proofs.holds_line_end.Tie as tie
 
-past-front-requires : tie.Need-past-front-requires
-past-front-requires c κs = search needs
+clear-front-requires : tie.Need-clear-front-requires
+clear-front-requires c κs = search needs
+
+module _ (c : tie.After-clear-front) where
+  abbrev text : List ℕ
+  text = c .before .before .args .s .now
+
+  fits : c .clear-front .result ≤ length text
+  fits = omega (arith, c .clear-front .ensures, upTo-fits (among 0 13 true) text)
 
 sub-rest : tie.Need-sub-rest
-sub-rest c = search needs
+sub-rest c = fits c
 
 part-rest-start : tie.Need-part-rest-start
-part-rest-start c = search needs
+part-rest-start c = fits c
 
 part-rest-end : tie.Need-part-rest-end
 part-rest-end c = search needs
@@ -26,11 +39,10 @@ scan-requires c κs = search needs
 
 returns : tie.Need-returns
 returns c =
-    let s : List ℕ = c .before .before .before .before .args .s .now in
-    let front = c .before .before .past-front in
-    let rest = rest-of (front .result) s in
-    rw (c .scan .ensures) (any-found lineEnd _ ∙ ap (any lineEnd) rest ∙ front .ensures .1)
+    let f = c .before .before in
+    rw (c .scan .ensures)
+    (any-found lineEnd _ ∙ ap (any lineEnd) (rest-of (f .clear-front .result) (text f)) ∙ any-behind lineEnd (among 0 13 true) end-low _ (text f) (f .clear-front .ensures))
 
 pub holds-line-end-spec : {M : Type 1} → statement M
 holds-line-end-spec =
-    tie.close (tie.spec past-front-requires sub-rest part-rest-start part-rest-end scan-requires returns)
+    tie.close (tie.spec clear-front-requires sub-rest part-rest-start part-rest-end scan-requires returns)

@@ -1,6 +1,6 @@
 -- `walk::weigh` meets its contract. Assumes nothing.
 use Prim.Native.Nat.{ℕ, _≤_, _<_}
-use mathlib.Core.Path.{_≡_, sym, ap, _∙_}
+use mathlib.Core.Path.{_≡_, sym, _∙_}
 use mathlib.Core.List.{List}
 use native.Mathlib.Omega.{arith}
 use lib.Dec.{eqb}
@@ -8,9 +8,9 @@ use lib.ListN.{length}
 use borrow.Author.Needs.{needs}
 use borrow.Author.Tests.{eq-eqb, ne-eqb}
 use Rattle.lists.specs.Lists.{all, upTo}
-use Rattle.lists.proofs.Scans.{all-found}
 use Rattle.normal.specs.Literal.{literal, notLiteral}
 use Rattle.walk.specs.Texts.{weighScratch}
+use Rattle.walk.proofs.Literal.{front-whole}
 use Rattle.walk.proofs.Weighing.{weighed-not-found, weighed-found, weighed-front, scratch-front, scratch-literal, scratch-walked}
 use Rattle.walk.proofs.weigh.Statement.{statement}
 use Rattle.walk.proofs.weigh.Tie as tie
@@ -51,7 +51,7 @@ module _ (c : tie.Else1) where
 
   -- whether they are all there are
   whole : eqb (c .before .literal-front .result) (length pattern) ≡ all literal pattern
-  whole = ap (λ (n : ℕ). eqb n (length pattern)) (c .before .literal-front .ensures) ∙ all-found literal pattern
+  whole = front-whole pattern _ (c .before .literal-front .ensures)
 
 weigh-literal-requires : tie.Need-weigh-literal-requires
 weigh-literal-requires c κs = sym (whole (c .before)) ∙ eq-eqb _ _ (c .if2 .taken)
