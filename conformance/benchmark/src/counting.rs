@@ -10,8 +10,9 @@ use crate::sections::Section;
 use crate::stop;
 
 /// Only what these do is counted.
-const COUNTED: [&str; 6] = [
+const COUNTED: [&str; 7] = [
     "robots_decide_disallow",
+    "robots_decide_unread",
     "robots_match_found",
     "robots_normalise",
     "plain_decide",

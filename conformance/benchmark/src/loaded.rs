@@ -45,6 +45,7 @@ pub struct Loaded {
     normalise: OfPath,
     match_found: OfMatch,
     decide_disallow: OfDecision,
+    decide_unread: OfDecision,
 }
 
 impl Loaded {
@@ -66,12 +67,20 @@ impl Loaded {
     }
 
     pub fn decide_disallow(&self, file: &[u8], name: &[u8], path: &[u8]) -> usize {
-        let (file, file_length) = (file.as_ptr(), file.len());
-        let (name, name_length) = (name.as_ptr(), name.len());
-        let (path, path_length) = (path.as_ptr(), path.len());
-        // SAFETY: the pointers and lengths are those of slices.
-        unsafe { (self.decide_disallow)(file, file_length, name, name_length, path, path_length) }
+        decided(self.decide_disallow, file, name, path)
     }
+
+    pub fn decide_unread(&self, file: &[u8], name: &[u8], path: &[u8]) -> usize {
+        decided(self.decide_unread, file, name, path)
+    }
+}
+
+fn decided(number: OfDecision, file: &[u8], name: &[u8], path: &[u8]) -> usize {
+    let (file, file_length) = (file.as_ptr(), file.len());
+    let (name, name_length) = (name.as_ptr(), name.len());
+    let (path, path_length) = (path.as_ptr(), path.len());
+    // SAFETY: the pointers and lengths are those of slices.
+    unsafe { number(file, file_length, name, name_length, path, path_length) }
 }
 
 /// Loads each archive of the library, with so many octets before its code.
@@ -121,6 +130,7 @@ pub fn library(handle: Handle, archive: &str) -> Loaded {
             normalise: function(handle, c"robots_normalise", archive),
             match_found: function(handle, c"robots_match_found", archive),
             decide_disallow: function(handle, c"robots_decide_disallow", archive),
+            decide_unread: function(handle, c"robots_decide_unread", archive),
         }
     }
 }

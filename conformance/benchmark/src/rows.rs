@@ -43,6 +43,8 @@ impl Both {
 pub enum Asked {
     /// Each name and path, by this file.
     Decide(Vec<u8>, Vec<Pair>),
+    /// The same, for the unread count.
+    Unread(Vec<u8>, Vec<Pair>),
     /// Each pattern against its path.
     Match(Vec<Pair>),
     /// Each path normalised into the same buffer.
@@ -69,7 +71,7 @@ impl Row {
     /// How many questions a pass asks.
     pub fn questions(&self) -> usize {
         match &self.asked {
-            Asked::Decide(_, pairs) | Asked::Match(pairs) => pairs.len(),
+            Asked::Decide(_, pairs) | Asked::Unread(_, pairs) | Asked::Match(pairs) => pairs.len(),
             Asked::Normalise(paths) => paths.len(),
         }
     }
@@ -78,6 +80,7 @@ impl Row {
     pub fn pass(&self, side: Side) -> usize {
         match &self.asked {
             Asked::Decide(file, pairs) => decide_all(side, file, pairs),
+            Asked::Unread(file, pairs) => unread_all(side, file, pairs),
             Asked::Match(pairs) => match_all(side, pairs),
             Asked::Normalise(paths) => normalise_all(side, paths),
         }
@@ -95,6 +98,17 @@ fn decide_all(side: Side, file: &[u8], pairs: &[Pair]) -> usize {
         }),
         Side::Evaluator => sum(pairs, |name, path| {
             usize::from(evaluator::decide(file(), name, path).disallow)
+        }),
+    }
+}
+
+fn unread_all(side: Side, file: &[u8], pairs: &[Pair]) -> usize {
+    let file = || black_box(file);
+    match side {
+        Side::Library(build) => sum(pairs, |name, path| build.decide_unread(file(), name, path)),
+        Side::PlainC(build) => sum(pairs, |name, path| build.decide(file(), name, path).unread),
+        Side::Evaluator => sum(pairs, |name, path| {
+            evaluator::decide(file(), name, path).unread
         }),
     }
 }

@@ -6,7 +6,7 @@ use crate::rows::{Asked, Row};
 /// All numbers of each question of the row are the same, and none is refused.
 pub fn check(row: &Row) {
     match &row.asked {
-        Asked::Decide(file, pairs) => {
+        Asked::Decide(file, pairs) | Asked::Unread(file, pairs) => {
             for (name, path) in pairs {
                 decision(&row.name, file, name, path);
             }

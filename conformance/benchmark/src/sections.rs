@@ -1,6 +1,6 @@
 //! The sections of the table, with their rows.
 
-use crate::rows::{Pair, Row};
+use crate::rows::{Asked, Pair, Row};
 use crate::sites::Site;
 use crate::{deciding, growth, others, patterns, shapes, sites, small};
 
@@ -22,6 +22,7 @@ pub fn all() -> Vec<Section> {
             ..octets("files", files(sites::all()))
         },
         octets("files not tuned on", files(others::all())),
+        octets("the unread count", unread(sites::all(), others::all())),
         octets("shapes", shapes::named()),
         section("small questions", None, small::rows()),
         section("matching, normalising", None, patterns::rows()),
@@ -43,6 +44,22 @@ fn section(title: &'static str, unit: Option<&'static str>, rows: Vec<Row>) -> S
 
 fn files(sites: [Site; 5]) -> Vec<Row> {
     sites.map(file).into()
+}
+
+/// The same files, read whole.
+fn unread(sites: [Site; 5], others: [Site; 5]) -> Vec<Row> {
+    let sites = sites.into_iter().chain(others);
+    sites.map(|site| counting(file(site))).collect()
+}
+
+fn counting(row: Row) -> Row {
+    match row.asked {
+        Asked::Decide(file, pairs) => Row {
+            asked: Asked::Unread(file, pairs),
+            ..row
+        },
+        _ => row,
+    }
 }
 
 fn file(site: Site) -> Row {

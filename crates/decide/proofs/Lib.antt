@@ -1,2 +1,3 @@
 mod Outputs
 mod Refusing
+mod Telling

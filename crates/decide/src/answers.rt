@@ -10,9 +10,13 @@ ghost use Rattle.protocol.specs.Decision.{answered};
 ghost use Rattle.protocol.specs.Classes.{classTable};
 ghost use Rattle.protocol.specs.Answers.{decide};
 ghost use Rattle.passes.specs.Entries.{audienceFor};
+ghost use Rattle.passes.specs.Choosing.{ChosenOf};
+ghost use Rattle.decide.specs.Telling.{told};
+use passes::audience::Chosen;
 use protocol::Audience;
 use protocol::ClassTable;
 use protocol::Decision;
+use protocol::Place;
 
 pub fn decide_refusal(classes: &ClassTable, file: &[u8], name: &[u8], path: &[u8]) -> usize
     requires { ⌜ now classes ≡ classTable ⌝ }
@@ -28,12 +32,16 @@ pub fn decide_refusal(classes: &ClassTable, file: &[u8], name: &[u8], path: &[u8
 }
 
 // Whose groups apply for a normalised path: nobody's for /robots.txt, which is always allowed.
-fn audience_for(classes: &ClassTable, file: &[u8], name: &[u8], path: &[u8]) -> Audience
+fn audience_for(classes: &ClassTable, file: &[u8], name: &[u8], path: &[u8]) -> Chosen
     requires { ⌜ now classes ≡ classTable ⌝ }
-    ensures { λ r. ⌜ r ≡ audienceFor (now (file .entry)) (now (name .entry)) (now (path .entry)) ⌝ }
+    ensures { λ r. ⌜ ChosenOf (now (file .entry)) (now (name .entry)) (audienceFor (now (file .entry)) (now (name .entry)) (now (path .entry))) r ⌝ }
 {
     if paths::is_robots_file(path) {
-        return Audience::Nobody;
+        return Chosen {
+            audience: Audience::Nobody,
+            first: Place { offset: file.len() },
+            only: true,
+        };
     }
     passes::audience::choose_audience(classes, file, name)
 }
@@ -41,16 +49,17 @@ fn audience_for(classes: &ClassTable, file: &[u8], name: &[u8], path: &[u8]) -> 
 // The answer about a normalised path, with memory for the runs of patterns.
 fn answer_for(
     classes: &ClassTable,
+    whole: bool,
     file: &[u8],
     name: &[u8],
     path: &[u8],
     scratch: &mut [u8],
 ) -> Decision
     requires { ⌜ (now classes ≡ classTable) × (length (now file) ≤ 512000) × (length (now path) ≤ 6142) × (length (now path) ≤ length (now scratch)) ⌝ }
-    ensures { λ r. ⌜ r ≡ answered (now (file .entry)) (entries (now (file .entry))) (now (name .entry)) (now (path .entry)) ⌝ }
+    ensures { λ r. ⌜ r ≡ told whole (answered (now (file .entry)) (entries (now (file .entry))) (now (name .entry)) (now (path .entry))) ⌝ }
 {
-    let audience = audience_for(classes, file, name, path);
-    let g = passes::gather::gather(classes, file, audience, name, path, scratch);
+    let chosen = audience_for(classes, file, name, path);
+    let g = passes::gather::gather(classes, file, whole, chosen, name, path, scratch);
     let c = g.considered;
     considering::conclude(c, g.unread)
 }
@@ -58,6 +67,7 @@ fn answer_for(
 // The answer where nothing is refused, with memory for the normalised path too.
 fn answer_in(
     classes: &ClassTable,
+    whole: bool,
     file: &[u8],
     name: &[u8],
     path: &[u8],
@@ -65,79 +75,98 @@ fn answer_in(
     scratch: &mut [u8],
 ) -> Decision
     requires { ⌜ (now classes ≡ classTable) × (length (now file) ≤ 512000) × (length (normalPath (now path)) ≤ 6142) × (length (normalPath (now path)) ≤ length (now buffer)) × (length (normalPath (now path)) ≤ length (now scratch)) ⌝ }
-    ensures { λ r. ⌜ r ≡ answered (now (file .entry)) (entries (now (file .entry))) (now (name .entry)) (normalPath (now (path .entry))) ⌝ }
+    ensures { λ r. ⌜ r ≡ told whole (answered (now (file .entry)) (entries (now (file .entry))) (now (name .entry)) (normalPath (now (path .entry)))) ⌝ }
 {
     let n = normal::write(false, path, buffer);
-    answer_for(classes, file, name, &buffer[..n], scratch)
+    answer_for(classes, whole, file, name, &buffer[..n], scratch)
 }
 
 // Room for a normalised path of at most 384 octets: to clear more would take longer than to decide by a small file.
-fn answer_short(classes: &ClassTable, file: &[u8], name: &[u8], path: &[u8]) -> Decision
+fn answer_short(
+    classes: &ClassTable,
+    whole: bool,
+    file: &[u8],
+    name: &[u8],
+    path: &[u8],
+) -> Decision
     requires { ⌜ (now classes ≡ classTable) × (length (now file) ≤ 512000) × (length (normalPath (now path)) ≤ 384) ⌝ }
-    ensures { λ r. ⌜ r ≡ answered (now (file .entry)) (entries (now (file .entry))) (now (name .entry)) (normalPath (now (path .entry))) ⌝ }
+    ensures { λ r. ⌜ r ≡ told whole (answered (now (file .entry)) (entries (now (file .entry))) (now (name .entry)) (normalPath (now (path .entry)))) ⌝ }
 {
     let mut buffer = [0u8; 384];
     let mut scratch = [0u8; 384];
-    answer_in(classes, file, name, path, &mut buffer, &mut scratch)
+    answer_in(classes, whole, file, name, path, &mut buffer, &mut scratch)
 }
 
 // Room for a normalised path of at most 1,536 octets.
-fn answer_middle(classes: &ClassTable, file: &[u8], name: &[u8], path: &[u8]) -> Decision
+fn answer_middle(
+    classes: &ClassTable,
+    whole: bool,
+    file: &[u8],
+    name: &[u8],
+    path: &[u8],
+) -> Decision
     requires { ⌜ (now classes ≡ classTable) × (length (now file) ≤ 512000) × (length (normalPath (now path)) ≤ 1536) ⌝ }
-    ensures { λ r. ⌜ r ≡ answered (now (file .entry)) (entries (now (file .entry))) (now (name .entry)) (normalPath (now (path .entry))) ⌝ }
+    ensures { λ r. ⌜ r ≡ told whole (answered (now (file .entry)) (entries (now (file .entry))) (now (name .entry)) (normalPath (now (path .entry)))) ⌝ }
 {
     let mut buffer = [0u8; 1536];
     let mut scratch = [0u8; 1536];
-    answer_in(classes, file, name, path, &mut buffer, &mut scratch)
+    answer_in(classes, whole, file, name, path, &mut buffer, &mut scratch)
 }
 
 // Room for the longest normalised path.
-fn answer_long(classes: &ClassTable, file: &[u8], name: &[u8], path: &[u8]) -> Decision
+fn answer_long(classes: &ClassTable, whole: bool, file: &[u8], name: &[u8], path: &[u8]) -> Decision
     requires { ⌜ (now classes ≡ classTable) × (length (now file) ≤ 512000) × (length (normalPath (now path)) ≤ 6142) ⌝ }
-    ensures { λ r. ⌜ r ≡ answered (now (file .entry)) (entries (now (file .entry))) (now (name .entry)) (normalPath (now (path .entry))) ⌝ }
+    ensures { λ r. ⌜ r ≡ told whole (answered (now (file .entry)) (entries (now (file .entry))) (now (name .entry)) (normalPath (now (path .entry)))) ⌝ }
 {
     let mut buffer = [0u8; 6142];
     let mut scratch = [0u8; 6142];
-    answer_in(classes, file, name, path, &mut buffer, &mut scratch)
+    answer_in(classes, whole, file, name, path, &mut buffer, &mut scratch)
 }
 
 // The answer about a path that is its own normalised path: nothing is copied, and there is room for the runs of patterns.
-fn answer_unchanged(classes: &ClassTable, file: &[u8], name: &[u8], path: &[u8]) -> Decision
+fn answer_unchanged(
+    classes: &ClassTable,
+    whole: bool,
+    file: &[u8],
+    name: &[u8],
+    path: &[u8],
+) -> Decision
     requires { ⌜ (now classes ≡ classTable) × (length (now file) ≤ 512000) × (length (now path) ≤ 2048) ⌝ }
-    ensures { λ r. ⌜ r ≡ answered (now (file .entry)) (entries (now (file .entry))) (now (name .entry)) (now (path .entry)) ⌝ }
+    ensures { λ r. ⌜ r ≡ told whole (answered (now (file .entry)) (entries (now (file .entry))) (now (name .entry)) (now (path .entry))) ⌝ }
 {
     if path.len() <= 128 {
         let mut scratch = [0u8; 128];
-        return answer_for(classes, file, name, path, &mut scratch);
+        return answer_for(classes, whole, file, name, path, &mut scratch);
     }
     let mut scratch = [0u8; 2048];
-    answer_for(classes, file, name, path, &mut scratch)
+    answer_for(classes, whole, file, name, path, &mut scratch)
 }
 
 // The answer where nothing is refused.
-fn answer(classes: &ClassTable, file: &[u8], name: &[u8], path: &[u8]) -> Decision
+fn answer(classes: &ClassTable, whole: bool, file: &[u8], name: &[u8], path: &[u8]) -> Decision
     requires { ⌜ (now classes ≡ classTable) × (decideRefusal (now file) (now name) (now path) ≡ 0) ⌝ }
-    ensures { λ r. ⌜ r ≡ answered (now (file .entry)) (entries (now (file .entry))) (now (name .entry)) (normalPath (now (path .entry))) ⌝ }
+    ensures { λ r. ⌜ r ≡ told whole (answered (now (file .entry)) (entries (now (file .entry))) (now (name .entry)) (normalPath (now (path .entry)))) ⌝ }
 {
     if !normal::may_change(path) {
-        return answer_unchanged(classes, file, name, path);
+        return answer_unchanged(classes, whole, file, name, path);
     }
     if path.len() <= 128 {
-        return answer_short(classes, file, name, path);
+        return answer_short(classes, whole, file, name, path);
     }
     if path.len() <= 512 {
-        return answer_middle(classes, file, name, path);
+        return answer_middle(classes, whole, file, name, path);
     }
-    answer_long(classes, file, name, path)
+    answer_long(classes, whole, file, name, path)
 }
 
-pub fn decide(classes: &ClassTable, file: &[u8], name: &[u8], path: &[u8]) -> Decision
+// The decision; with its unread count only where the whole file is to be read for it.
+pub fn decide(classes: &ClassTable, whole: bool, file: &[u8], name: &[u8], path: &[u8]) -> Decision
     requires { ⌜ now classes ≡ classTable ⌝ }
-    ensures { λ r. ⌜ r ≡ decide (now (file .entry)) (now (name .entry)) (now (path .entry)) ⌝ }
+    ensures { λ r. ⌜ r ≡ told whole (decide (now (file .entry)) (now (name .entry)) (now (path .entry))) ⌝ }
 {
     let refusal = decide_refusal(classes, file, name, path);
     if refusal != 0 {
         return considering::refused(refusal);
     }
-    answer(classes, file, name, path)
+    answer(classes, whole, file, name, path)
 }

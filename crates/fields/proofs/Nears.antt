@@ -7,7 +7,7 @@ use native.Mathlib.Omega.{arith}
 use lib.Dec.{leb, eqb}
 use lib.ListN.{length, take, drop, getD}
 use lib.Seq.{drop-drop}
-use borrow.Author.Tests.{lt-leb, leb-true}
+use borrow.Author.Tests.{lt-leb, leb-true, eqb-false}
 use types.Run.{OneOf, hit, miss}
 use denote.Enum.Declared.{tagOf}
 use Rattle.lists.specs.Choice.{if_then_else_}
@@ -15,7 +15,7 @@ use Rattle.lists.specs.Lists.{upTo, from, same}
 use Rattle.lists.proofs.Bools.{split, and-left, and-right}
 use Rattle.lists.proofs.Scans.{rest-of, drop-one, drop-upTo}
 use Rattle.protocol.specs.declared.Place.{Place}
-use Rattle.protocol.specs.Octets.{is, blank, lineEnd}
+use Rattle.protocol.specs.Octets.{is, blank, lineEnd, upper, lowerCase}
 use Rattle.protocol.specs.Text.{octets, begins, sameIgnoringCase, solid, lead}
 use Rattle.protocol.specs.Lines.{placeAt}
 use Rattle.protocol.specs.Classes.{stop}
@@ -23,9 +23,9 @@ use Rattle.fields.specs.declared.Field.{Field}
 use Rattle.fields.specs.declared.Head.{Head}
 use Rattle.fields.specs.Fields.{headAt, valueStart, headOf}
 use Rattle.fields.specs.Names.{nameLength, beginsName, fieldAt}
-use Rattle.fields.specs.Near.{nearValue, toldBy, agentOf, agentOnly}
+use Rattle.fields.specs.Near.{nearValue, toldBy, agentFirst, agentOf, agentOnly}
 use Rattle.fields.proofs.Field as F
-use Rattle.fields.proofs.Heads.{Known, field-begins, agent-told, field-known, head-other, head-some}
+use Rattle.fields.proofs.Heads.{Known, field-begins, agent-told, no-agent, field-known, head-other, head-some}
 use Rattle.fields.proofs.Sorts.{colon-solid, plain, plain-same}
 
 -- no space or tab stands in front
@@ -102,6 +102,17 @@ near-most k v l e =
     omega (arith, found, leb-true (lead (drop 1 l)) 1 (and-right (begins ":" l) (leb (lead (drop 1 l)) 1) b)))
     (λ b. let none : v ≡ 0 = e ∙ rw b in omega (arith, none))
 
+-- a text that doesn't begin with the agent's name, also by its first octet
+at-not-agent : (t : List ℕ) (p : Place) → beginsName Field.Agent t ≡ false → record { field = Field.Other; value = placeAt 0 } ≡ agentOnly (headAt (fieldAt t) p)
+unfolding fieldAt
+at-not-agent t p a =
+    split (beginsName Field.Disallow t) (λ d. rw d) (λ d. split (beginsName Field.Allow t) (λ e. rw (d, e)) (λ e. rw (d, e, a)))
+
+not-named : (t : List ℕ) → agentFirst t ≡ false → beginsName Field.Agent t ≡ false
+unfolding lowerCase upper
+not-named [] e = no-agent [] (λ h. omega arith)
+not-named (x ∷ t) e = no-agent (x ∷ t) (eqb-false (lowerCase x) 117 e)
+
 module _ (r : List ℕ) where
   -- no field that is known
   pub near-other : (f : Field) → f ≡ fieldAt r → f ≡ Field.Other → lead r ≡ 0 → record { field = Field.Other; value = placeAt 0 } ≡ headOf r
@@ -127,20 +138,29 @@ module _ (r : List ℕ) where
       let named : beginsName f r ≡ true = rw (← told) at (field-begins r) in
       near-from 0 r f k v v (sym (known-lead f r known named)) refl told known size value near (omega arith)
 
-  -- an agent's head, and that of a line that doesn't begin with the agent's name
+  -- an agent's head
   pub near-agent : (v : ℕ) → beginsName Field.Agent r ≡ true → v ≡ nearValue 10 (drop 10 r) → (v ≡ 0 → ⊥)
       → record { field = Field.Agent; value = placeAt v } ≡ agentOnly (headOf r)
   unfolding octets
   near-agent v b e n = ap agentOnly (near-head Field.Agent 10 v (agent-told r b) (hit (0 ∷ 1 ∷ 2 ∷ []) 0 tt) refl e n)
 
-  at-not-agent : (p : Place) → beginsName Field.Agent r ≡ false → record { field = Field.Other; value = placeAt 0 } ≡ agentOnly (headAt (fieldAt r) p)
-  unfolding fieldAt
-  at-not-agent p a =
-      split (beginsName Field.Disallow r) (λ d. rw d) (λ d. split (beginsName Field.Allow r) (λ e. rw (d, e)) (λ e. rw (d, e, a)))
+  -- that of a line that doesn't begin with the agent's name behind its spaces and tabs
+  none-agent : beginsName Field.Agent (from solid r) ≡ false → record { field = Field.Other; value = placeAt 0 } ≡ agentOnly (headOf r)
+  unfolding headOf
+  none-agent a =
+      let t : List ℕ = from solid r in
+      rw (field-known r)
+      (split (begins ":" (from solid (drop (nameLength (fieldAt t)) t))) (λ c. rw c (at-not-agent t (valueStart r) a)) (λ c. rw c))
 
+  -- with none of these in front,
   pub not-agent-head : beginsName Field.Agent r ≡ false → blank (getD r 0 0) ≡ false → record { field = Field.Other; value = placeAt 0 } ≡ agentOnly (headOf r)
-  unfolding headOf lead
+  unfolding lead
   not-agent-head a b =
       let start : from solid r ≡ r = sym (drop-upTo solid r) ∙ ap (λ (n : ℕ). drop n r) (lead-none r b) in
-      rw (field-known r, start)
-      (split (begins ":" (from solid (drop (nameLength (fieldAt r)) r))) (λ c. rw c (at-not-agent (valueStart r) a)) (λ c. rw c))
+      none-agent (rw start a)
+
+  -- or as its first octet behind them tells
+  pub not-agent-first : (start : ℕ) → start ≡ lead r → agentFirst (drop start r) ≡ false
+      → record { field = Field.Other; value = placeAt 0 } ≡ agentOnly (headOf r)
+  unfolding lead
+  not-agent-first start s e = none-agent (not-named (from solid r) (rw (s, drop-upTo solid r) at e))

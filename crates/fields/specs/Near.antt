@@ -1,12 +1,13 @@
 -- The names of the fields eight octets at a time, and heads that are told from a line's first octets. Assumes nothing.
 use Prim.Native.Nat.{ℕ, _+_, _-_}
-use mathlib.Core.Bool.{Bool, true, not, _&&_}
-use mathlib.Core.List.{List, _++_, map}
+use mathlib.Core.Bool.{Bool, true, false, not, _&&_}
+use mathlib.Core.List.{List, [], _∷_, _++_, map}
 use lib.Bits.{bitOr}
 use lib.Dec.{leb, eqb}
 use lib.ListN.{length, take, drop, replicate}
 use Rattle.lists.specs.Choice.{if_then_else_}
 use Rattle.lists.specs.Lists.{same}
+use Rattle.protocol.specs.Octets.{is, lowerCase}
 use Rattle.protocol.specs.Text.{octets, begins, lead}
 use Rattle.protocol.specs.Lines.{placeAt}
 use Rattle.fields.specs.declared.Field.{Field}
@@ -48,6 +49,11 @@ toldBy Field.Other v = true
 
 abbrev pub isTold : Head → Bool
 isTold h = toldBy (h .field) (h .value .offset)
+
+-- a text's first octet is that of the agent's name, ASCII case ignored
+abbrev pub agentFirst : List ℕ → Bool
+agentFirst [] = false
+agentFirst (x ∷ l) = is "u" (lowerCase x)
 
 -- a head of an agent line; any other is as that of a line without a known field
 abbrev pub agentOf : Field → Head → Head

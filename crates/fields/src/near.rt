@@ -11,7 +11,7 @@ ghost use Rattle.words.specs.Words.{octetsOf};
 ghost use Rattle.fields.specs.declared.Field.{Field};
 ghost use Rattle.fields.specs.Fields.{headOf};
 ghost use Rattle.fields.specs.Names.{beginsName, fieldAt};
-ghost use Rattle.fields.specs.Near.{nameWord, keptWord, folded, wordBegins, nearValue, isTold, agentOnly};
+ghost use Rattle.fields.specs.Near.{nameWord, keptWord, folded, wordBegins, nearValue, isTold, agentFirst, agentOnly};
 use crate::Field;
 use crate::Head;
 use protocol::ClassTable;
@@ -190,7 +190,19 @@ fn agent_only(head: Head) -> Head
     head
 }
 
-// The head of the line that a text begins with, where it is an agent line.
+// The octet at `start` is the first of the agent's name, ASCII case ignored.
+fn may_be_agent(classes: &ClassTable, r: &[u8], start: usize) -> bool
+    requires { ⌜ now classes ≡ classTable ⌝ }
+    ensures { λ m. ⌜ m ≡ agentFirst (drop start (now (r .entry))) ⌝ }
+{
+    if r.len() <= start {
+        return false;
+    }
+    octets::is_same(classes, r[start], FIELDS[0][0])
+}
+
+// The head of the line that a text begins with, where it is an agent line. A line of spaces and tabs alone, or one whose first other octet isn't
+// that of the agent's name, is told sooner.
 pub fn agent_head(classes: &ClassTable, r: &[u8]) -> Head
     requires { ⌜ now classes ≡ classTable ⌝ }
     ensures { λ h. ⌜ h ≡ agentOnly (headOf (now (r .entry))) ⌝ }
@@ -210,6 +222,9 @@ pub fn agent_head(classes: &ClassTable, r: &[u8]) -> Head
                 return crate::no_head();
             }
             let start = text::lead(classes, r);
+            if !may_be_agent(classes, r, start) {
+                return crate::no_head();
+            }
             let head = indented(classes, r, start);
             if is_told(head) {
                 return agent_only(head);

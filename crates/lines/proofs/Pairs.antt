@@ -57,7 +57,7 @@ pub part-length : (s : List ℕ) (i k n : ℕ) → n ≡ k → i + k ≤ length 
 part-length s i k n e h = rw e (simp (length-take, length-drop) (omega arith))
 
 -- of a text's front, which has an octet more than pairs
-pub pairs-front : (s : List ℕ) (k n : ℕ) → n ≡ k + 1 → pairs (take n s) ≡ take k (pairs s)
+pairs-front : (s : List ℕ) (k n : ℕ) → n ≡ k + 1 → pairs (take n s) ≡ take k (pairs s)
 pairs-front s k n e = let g : n ≡ suc k = omega arith in rw (g, behind s) (zip-more k s (drop 1 s))
   where
     behind : (l : List ℕ) → drop 1 (take (suc k) l) ≡ take k (drop 1 l)
@@ -79,6 +79,10 @@ module _ (s : List ℕ) where
 
     pub pairs-rest : pairs (drop i s) ≡ drop i (pairs s)
     pairs-rest = rw (zip-drop i s (drop 1 s), behind-one, drop-drop 1 i s)
+
+    -- of a part that has an octet more than pairs
+    pub pairs-few : (k n : ℕ) → n ≡ k + 1 → pairs (take n (drop i s)) ≡ take k (drop i (pairs s))
+    pairs-few k n e = pairs-front (drop i s) k n e ∙ ap (take k) pairs-rest
 
     pub pairs-next : i + 1 < length s → drop i (pairs s) ≡ (getD s i 0, getD s (i + 1) 0) ∷ drop (i + 1) (pairs s)
     pairs-next h =

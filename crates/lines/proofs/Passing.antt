@@ -1,5 +1,5 @@
 -- Lines that are passed over, and what is asked of a file's lines. Assumes nothing.
-use Prim.Native.Nat.{ℕ, zero, suc, _+_, _*_, _≤_, _<_}
+use Prim.Native.Nat.{ℕ, zero, suc, _+_, _-_, _*_, _≤_, _<_}
 use mathlib.Core.Path.{_≡_, refl, sym, ap, _∙_}
 use mathlib.Core.Bool.{Bool, true, false, _||_, false≢true, true≢false}
 use mathlib.Core.List.{List, [], _∷_, zipWith, zip}
@@ -18,7 +18,7 @@ use Rattle.protocol.specs.Octets.{is, upper, blank, lineEnd, lowerCase}
 use Rattle.protocol.specs.Text.{begins}
 use Rattle.protocol.specs.Lines.{Line, line, numberAfter, placeAfter, lineText, linesFrom}
 use Rattle.protocol.proofs.FrontToBack.{linesBehind, lines-behind, first-line, linesAt}
-use Rattle.lines.specs.Skips.{agentOctet, entryOctet, pairs, opens, closes, endings, agentFront, nextAgent, blocksAt, PassedOver}
+use Rattle.lines.specs.Skips.{agentOctet, entryOctet, pairs, between, opens, closes, endings, agentFront, nextAgent, blocksAt, PassedOver}
 use Rattle.lines.specs.Spans.{nextAt}
 use Rattle.lines.proofs.Endings.{closing-ends, ends-closed, behind-closed, behind-open}
 use Rattle.lines.proofs.Forward.{next-further}
@@ -26,11 +26,11 @@ use Rattle.lines.proofs.Pairs.{pairs-rest}
 use Rattle.lines.proofs.Skips.{over-few}
 
 -- neither of two tests passes
-or-left : (a b : Bool) → (a || b) ≡ false → a ≡ false
+pub or-left : (a b : Bool) → (a || b) ≡ false → a ≡ false
 or-left true b h = h
 or-left false b h = refl
 
-or-right : (a b : Bool) → (a || b) ≡ false → b ≡ false
+pub or-right : (a b : Bool) → (a || b) ≡ false → b ≡ false
 or-right true b h = absurd (true≢false h)
 or-right false b h = h
 
@@ -97,30 +97,38 @@ opening-closes c d h =
     split (is "\n" d) (λ e. absurd (false≢true (and-right (lineEnd c) _ (rw (eqb-true d 10 e) at h))))
     (λ e. rw e (ends-closed c (and-left (lineEnd c) _ h)))
 
--- So the lines behind the one at p are asked as those from the next one on that may be an agent line, whatever its number.
+-- So the lines behind the one at p are asked as those from the next one on that may be an agent line; its number is the one after the line
+-- endings that are passed.
 module _ {X : Type 0} (ask : List Line → X) (same : Unasked agentOctet ask) where
   agents-behind : (n : LineNumber) (p : Place) (l : List ℕ) → 0 < length l → let k = agentFront (pairs l) + 1 in
-      (m : LineNumber) × (ask (linesBehind n p l) ≡ ask (linesFrom m (placeAfter p k) 0 (drop k l)))
-  unfolding upTo zip zipWith begins linesFrom
+      ask (linesBehind n p l) ≡ ask (linesFrom (numberAfter n (endings (take k (pairs l)))) (placeAfter p k) 0 (drop k l))
+  unfolding upTo total zip zipWith begins linesFrom
   agents-behind n p [] i = absurd (omega arith)
-  agents-behind n p (c ∷ []) i = (n, ap ask (none-behind n p c))
+  agents-behind n p (c ∷ []) i = ap ask (none-behind n p c)
   agents-behind n p (c ∷ d ∷ l) i =
+      let one = oneIf (closes c (is "\n" d)) in
       split (opens agentOctet (c, d))
-      (λ h. (numberAfter n 1, rw (upTo-stop (opens agentOctet) (c, d) (pairs (d ∷ l)) h) (ap ask (behind-closed n p c (d ∷ l) (opening-closes c d h)))))
+      (λ h.
+      let e = opening-closes c d h in
+      rw (upTo-stop (opens agentOctet) (c, d) (pairs (d ∷ l)) h, e) (ap ask (behind-closed n p c (d ∷ l) e)))
       (λ h.
       let w = agentFront (pairs (d ∷ l)) in
       let k = w + 1 in
       let more : suc w + 1 ≡ suc k = omega arith in
       let e : p .offset + 1 + k ≡ p .offset + suc k = omega arith in
-      let on = agents-behind (numberAfter n (oneIf (closes c (is "\n" d)))) (placeAfter p 1) (d ∷ l) (omega arith) in
-      (on .0, rw (upTo-on (opens agentOctet) (c, d) (pairs (d ∷ l)) h, more, ← e) (octet-passed ask agentOctet same n p c d l h ∙ on .1)))
+      let rest = endings (take k (pairs (d ∷ l))) in
+      let q : n .number + one + rest ≡ n .number + (one + rest) = omega arith in
+      rw (upTo-on (opens agentOctet) (c, d) (pairs (d ∷ l)) h, more, ← e, ← q)
+      (octet-passed ask agentOctet same n p c d l h ∙ agents-behind (numberAfter n one) (placeAfter p 1) (d ∷ l) (omega arith)))
 
   pub agents-on : (file : List ℕ) (n : LineNumber) (p : Place) → p .offset < length file
-      → (m : LineNumber) × (ask (linesAt file (numberAfter n 1) (nextAt file p)) ≡ ask (linesAt file m (nextAgent file p)))
+      → ask (linesAt file (numberAfter n 1) (nextAt file p))
+      ≡ ask (linesAt file (numberAfter n (endings (between file p (nextAgent file p)))) (nextAgent file p))
   agents-on file n p h =
       let k = agentFront (drop (p .offset) (pairs file)) + 1 in
+      let size : p .offset + k - p .offset ≡ k = omega arith in
       let on = rw (pairs-rest file (p .offset)) at (agents-behind n p (drop (p .offset) file) (simp length-drop (omega arith))) in
-      (on .0, sym (ap ask (lines-behind file n p)) ∙ on .1 ∙ rw (drop-drop k (p .offset) file))
+      sym (ap ask (lines-behind file n p)) ∙ rw size (on ∙ rw (drop-drop k (p .offset) file))
 
 -- Past blocks the next line begins further on, inside the file or at its end; and no more lines than octets are passed over.
 module _ (file : List ℕ) (p r : Position) (o : PassedOver file p r) where

@@ -20,8 +20,8 @@ use Rattle.protocol.specs.declared.Place.{Place}
 use Rattle.protocol.specs.declared.Position.{Position}
 use Rattle.protocol.specs.Octets.{is, upper, blank, lineEnd, lowerCase}
 use Rattle.protocol.specs.Lines.{lineNumber, placeAt, numberAfter, placeAfter}
-use Rattle.lines.specs.Skips.{agentOctet, entryOctet, pairs, opens, quiet, closes, endings, agentFront, blocksAt, PassedOver, PassedFrom}
-use Rattle.lines.proofs.Pairs.{zip-next, pairs-length, pairs-front, pairs-part, pairs-rest, any-parts, upTo-within, upTo-over, total-parts}
+use Rattle.lines.specs.Skips.{agentOctet, entryOctet, pairs, between, opens, quiet, closes, endings, agentFront, blocksAt, PassedOver, PassedFrom}
+use Rattle.lines.proofs.Pairs.{zip-next, pairs-length, pairs-part, any-parts, upTo-within, upTo-over, total-parts}
 
 -- without a branch: a letter with the bit 32 set is the lower-case one
 pub agent-bits : (x : ℕ) → x < 256 → (eqb (bitOr x 32) 117 || eqb x 32 || eqb x 9) ≡ agentOctet x
@@ -68,30 +68,24 @@ module _ (s : List ℕ) (i k n m : ℕ) (e : n ≡ k) (g : m ≡ k) where
       let fits : k ≤ length rest = omega (arith, length-drop i (pairs s), pairs-length s) in
       rw (← drop-drop k i (pairs s)) (upTo-over (opens agentOctet) k rest fits (not-true _ (rw (pairs-part s i k n m e g) at h)))
 
--- in a few octets, and behind all of them but the last
-module _ (s : List ℕ) (i k n : ℕ) (e : n ≡ k + 1) (f : i + k < length s) where
-  abbrev few : List ℕ
-  few = take n (drop i s)
-
+-- as far as a part goes, and behind it
+module _ (s : List ℕ) (i k : ℕ) (f : i + k < length s) (part : List (ℕ × ℕ)) (e : part ≡ take k (drop i (pairs s))) where
   abbrev rest : List (ℕ × ℕ)
   rest = drop i (pairs s)
 
-  few-pairs : pairs few ≡ take k rest
-  few-pairs = pairs-front (drop i s) k n e ∙ ap (take k) (pairs-rest s i)
+  size : length (take k rest) ≡ k
+  size = simp (length-take, length-drop, pairs-length) (omega arith)
 
-  few-length : length (take k rest) ≡ k
-  few-length = simp (length-take, length-drop, pairs-length) (omega arith)
+  holds : ltb (agentFront part) k ≡ any (opens agentOctet) (take k rest)
+  holds = rw e (rw size at (any-found (opens agentOctet) (take k rest)))
 
-  few-holds : ltb (agentFront (pairs few)) k ≡ any (opens agentOctet) (take k rest)
-  few-holds = rw few-pairs (rw few-length at (any-found (opens agentOctet) (take k rest)))
+  pub front-near : agentFront part < k → agentFront part ≡ agentFront rest
+  front-near h = ap agentFront e ∙ upTo-within (opens agentOctet) k rest (sym holds ∙ lt-ltb _ k h)
 
-  pub front-near : agentFront (pairs few) < k → agentFront (pairs few) ≡ agentFront rest
-  front-near h = ap agentFront few-pairs ∙ upTo-within (opens agentOctet) k rest (sym few-holds ∙ lt-ltb _ k h)
-
-  pub front-behind : k ≤ agentFront (pairs few) → agentFront rest ≡ k + agentFront (drop (i + k) (pairs s))
+  pub front-behind : k ≤ agentFront part → agentFront rest ≡ k + agentFront (drop (i + k) (pairs s))
   front-behind h =
       let fits : k ≤ length rest = omega (arith, length-drop i (pairs s), pairs-length s) in
-      rw (← drop-drop k i (pairs s)) (upTo-over (opens agentOctet) k rest fits (sym few-holds ∙ le-ltb _ k h))
+      rw (← drop-drop k i (pairs s)) (upTo-over (opens agentOctet) k rest fits (sym holds ∙ le-ltb _ k h))
 
 pub front-fits : (s : List ℕ) (i : ℕ) → agentFront (drop i (pairs s)) ≤ length s - 1 - i
 front-fits s i = omega (arith, upTo-fits (opens agentOctet) (drop i (pairs s)), length-drop i (pairs s), pairs-length s)
@@ -127,6 +121,25 @@ endings-few (x ∷ l) = omega (arith, endings-few l, one-at-most (closes (x .0) 
 
 pub endings-fit : (n : ℕ) (l : List (ℕ × ℕ)) → endings (take n l) ≤ n
 endings-fit n l = omega (arith, endings-few (take n l), length-take n l)
+
+-- from one place up to another
+module _ (s : List ℕ) where
+  pub endings-between : (p q r : Place) → p .offset ≤ q .offset → q .offset ≤ r .offset
+      → endings (between s p r) ≡ endings (between s p q) + endings (between s q r)
+  endings-between p q r h k =
+      let i = p .offset in
+      let n = q .offset - i in
+      let m = r .offset - q .offset in
+      let all : r .offset - i ≡ n + m = omega arith in
+      let there : i + n ≡ q .offset = omega arith in
+      let rest = drop-drop n i (pairs s) ∙ ap (λ (j : ℕ). drop j (pairs s)) there in
+      rw (all, ← rest) (total-parts _ n m (drop i (pairs s)))
+
+  pub few-between : (p q : Place) → endings (between s p q) ≤ q .offset - p .offset
+  few-between p q = endings-fit (q .offset - p .offset) (drop (p .offset) (pairs s))
+
+  pub none-between : (p : Place) → endings (between s p p) ≡ 0
+  none-between p = omega (arith, few-between p p)
 
 -- a part of quiet octets is quiet
 quiet-part : (l : List (ℕ × ℕ)) (n k m : ℕ) → k + m ≤ n → quiet entryOctet (take n l) ≡ true → quiet entryOctet (take m (drop k l)) ≡ true

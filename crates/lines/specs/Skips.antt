@@ -25,6 +25,10 @@ entryOctet x = not (stop x)
 abbrev pub pairs : List ℕ → List (ℕ × ℕ)
 pairs s = zip s (drop 1 s)
 
+-- the octets from p up to q, each with the one behind it
+abbrev pub between : List ℕ → Place → Place → List (ℕ × ℕ)
+between s p q = take (q .offset - p .offset) (drop (p .offset) (pairs s))
+
 -- a line begins between the two, with an octet that passes the test
 abbrev pub opens : (ℕ → Bool) → ℕ × ℕ → Bool
 opens first x = lineEnd (x .0) && first (x .1)

@@ -1,13 +1,12 @@
 // Passing over octets in which no agent or rule line begins.
 
 ghost use mathlib.Core.Path.{_≡_};
-ghost use mathlib.Core.Bool.{false};
 ghost use mathlib.Core.List.{zip};
 ghost use Prim.Native.Nat.{_+_, _≤_, _<_};
 ghost use lib.ListN.{length};
-ghost use Rattle.protocol.specs.Octets.{lineEnd};
+ghost use Rattle.protocol.specs.Octets.{is, lineEnd};
 ghost use Rattle.protocol.specs.Classes.{stop};
-ghost use Rattle.lines.specs.Skips.{agentOctet, pairs, quiet, agentFront, glanced, nextAgent, PassedFrom};
+ghost use Rattle.lines.specs.Skips.{agentOctet, pairs, quiet, closes, endings, between, agentFront, glanced, nextAgent, PassedFrom};
 use protocol::FIELDS;
 use protocol::LineNumber;
 use protocol::Place;
@@ -34,6 +33,13 @@ fn begins_remark(x: u8) -> bool
     (x == b'#') | ends_line(x)
 }
 
+// The octet x, in front of y, is the last of its line and of its ending.
+fn closes_line(x: u8, y: u8) -> bool
+    ensures { λ r. ⌜ r ≡ closes x (is "\n" y) ⌝ }
+{
+    (x == b'\n') | ((x == b'\r') & (y != b'\n'))
+}
+
 // No agent line begins behind any of the octets; `behind` holds the octet behind each of them. All are looked at, so that the compiler can look
 // at many at a time, and in two texts, so that it needn't put together one from the other.
 fn is_quiet(b: &[u8], behind: &[u8]) -> bool
@@ -49,19 +55,19 @@ fn is_quiet(b: &[u8], behind: &[u8]) -> bool
     !found
 }
 
-// The octets of 64 in front of the first behind which an agent line may begin; there is one.
+// The octets of 64 in front of the first behind which an agent line may begin; 64, if there is none.
 fn front_agent(b: &[u8], behind: &[u8]) -> usize
-    requires { ⌜ (length (now b) ≡ 64) × (length (now behind) ≡ 64) × (quiet agentOctet (zip (now b) (now behind)) ≡ false) ⌝ }
+    requires { ⌜ (length (now b) ≡ 64) × (length (now behind) ≡ 64) ⌝ }
     ensures { λ r. ⌜ r ≡ agentFront (zip (now (b .entry)) (now (behind .entry))) ⌝ }
 {
-    let mut first = 255u8;
+    let mut first = 64u8;
     let mut i = 0u8;
     while i < 64 {
         let at = i as usize;
         let here = if ends_line(b[at]) & may_begin(behind[at]) {
             i
         } else {
-            255
+            64
         };
         if here < first {
             first = here;
@@ -120,13 +126,14 @@ fn far_agent(s: &[u8], from: Place) -> Place
 }
 
 // Where the next line begins that may be an agent line; the text's end, if there is none. Before any block, the next five
-// octets are looked at one by one: where such lines are short, the next is near.
+// octets are looked at one by one: where such lines are short, the next is near. In the block behind these the place is
+// looked for at once: mostly it is there.
 pub fn next_agent(s: &[u8], from: Place) -> Place
     requires { ⌜ from .offset < length (now s) ⌝ }
     ensures { λ r. ⌜ r ≡ nextAgent (now (s .entry)) from ⌝ }
 {
     let start = from.offset;
-    if s.len() - start < 65 {
+    if s.len() - start < 70 {
         let found = start + tail_agent(&s[start..]);
         return Place { offset: found };
     }
@@ -137,7 +144,13 @@ pub fn next_agent(s: &[u8], from: Place) -> Place
         return Place { offset: found };
     }
     let on = start + 5;
-    far_agent(s, Place { offset: on })
+    let front = front_agent(&s[on..on + 64], &s[on + 1..on + 65]);
+    if front < 64 {
+        let found = on + front + 1;
+        return Place { offset: found };
+    }
+    let far = on + 64;
+    far_agent(s, Place { offset: far })
 }
 
 // What 64 octets hold: whether only comments and blank lines begin behind them, and the line endings that they close.
@@ -163,11 +176,7 @@ fn glance(b: &[u8], behind: &[u8]) -> Seen
             0u8
         };
         found = found | here;
-        let ends = if (x == b'\n') | ((x == b'\r') & (y != b'\n')) {
-            1u8
-        } else {
-            0u8
-        };
+        let ends = if closes_line(x, y) { 1u8 } else { 0u8 };
         n += ends;
         i += 1;
     }
@@ -200,4 +209,38 @@ pub fn pass(s: &[u8], at: Position) -> Position
         number: LineNumber { number },
         place: Place { offset: i },
     }
+}
+
+// The line endings that up to 64 octets close, as in `glance`.
+fn few_endings(b: &[u8], behind: &[u8]) -> usize
+    requires { ⌜ (length (now b) ≤ 64) × (length (now behind) ≡ length (now b)) ⌝ }
+    ensures { λ r. ⌜ r ≡ endings (zip (now (b .entry)) (now (behind .entry))) ⌝ }
+{
+    let mut n = 0u8;
+    let mut i = 0;
+    while i < b.len() {
+        let ends = if closes_line(b[i], behind[i]) {
+            1u8
+        } else {
+            0u8
+        };
+        n += ends;
+        i += 1;
+    }
+    n as usize
+}
+
+// The line endings that the octets from one place up to another close.
+pub fn count_endings(s: &[u8], from: Place, to: Place) -> usize
+    requires { ⌜ (from .offset ≤ to .offset) × (to .offset < length (now s)) ⌝ }
+    ensures { λ r. ⌜ r ≡ endings (between (now (s .entry)) from to) ⌝ }
+{
+    let end = to.offset;
+    let mut i = from.offset;
+    let mut n = 0;
+    while 64 <= end - i {
+        n += few_endings(&s[i..i + 64], &s[i + 1..i + 65]);
+        i += 64;
+    }
+    n + few_endings(&s[i..end], &s[i + 1..end + 1])
 }

@@ -37,7 +37,7 @@ heard-unread : (who : List ℕ) (ro : Role) (v : List ℕ) (h : Hearing) → hea
 heard-unread who agent v h = refl
 heard-unread who (rule side) v h = refl
 
-gathered-heard : (file who path : List ℕ) (h : Hearing) (c : Considered) (es : List Entry)
+pub gathered-heard : (file who path : List ℕ) (h : Hearing) (c : Considered) (es : List Entry)
     → gatheredFrom file who path h c es
     ≡ record { considered = consideredAll file path c (rulesHeard file who h es); unread = h .unread + unread file es }
 unfolding gatheredFrom rulesHeard consideredAll unread total

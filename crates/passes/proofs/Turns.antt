@@ -1,14 +1,17 @@
 -- One turn of a pass over the lines of a file: what the line there makes of what is known, and the lines behind it. Assumes nothing.
 use Prim.Native.Nat.{ℕ, _+_, _*_, _≤_, _<_}
-use mathlib.Core.Path.{_≡_, refl, sym, ap, _∙_}
+use mathlib.Core.Path.{_≡_, refl, sym, ap, ap₂, _∙_}
 use mathlib.Core.Bool.{Bool, true, false, _&&_, _||_, false≢true}
 use mathlib.Core.List.{List, [], _∷_, _++_}
 use mathlib.Core.Option.{none, some}
 use native.Mathlib.Omega.{arith}
 use types.Run.{OneOf, miss}
 use denote.Enum.Declared.{tagOf}
+use lib.Dec.{ltb}
 use lib.ListN.{length, drop}
-use Rattle.lists.specs.Lists.{any}
+use borrow.Author.Tests.{ltb-true, ltb-false}
+use Rattle.lists.specs.Choice.{if_then_else_}
+use Rattle.lists.specs.Lists.{any, from}
 use Rattle.lists.proofs.Bools.{split, one-at-most}
 use Rattle.protocol.specs.declared.LineNumber.{LineNumber}
 use Rattle.protocol.specs.declared.Place.{Place}
@@ -17,8 +20,9 @@ use Rattle.protocol.specs.declared.Side.{Side}
 use Rattle.protocol.specs.declared.Agent.{Agent}
 use Rattle.protocol.specs.declared.Pattern.{Pattern}
 use Rattle.protocol.specs.declared.Kind.{Kind}
+use Rattle.protocol.specs.declared.Rule.{Rule}
 use Rattle.protocol.specs.declared.Audience.{Audience}
-use Rattle.protocol.specs.Lines.{Line, line, lineNumber, placeAt, placeAfter, skipped, numberAfter, lineText, linesFrom}
+use Rattle.protocol.specs.Lines.{Line, line, lineNumber, placeAt, placeAfter, skipped, numberAfter, lineText, linesFrom, linesOf}
 use Rattle.protocol.specs.Readable.{everyone, readablePattern}
 use Rattle.protocol.specs.Kinds.{kindOf, placeOf, lengthOf, unreadableKind}
 use Rattle.protocol.specs.Entries.{agent, rule, Entry, roleOf, groupAt, ruledAfter, entryOf, entriesFrom, entries}
@@ -27,33 +31,37 @@ use Rattle.protocol.proofs.FrontToBack.{linesAt, lines-next, lines-end, lines-a
 use Rattle.protocol.proofs.Kind as K
 use Rattle.protocol.proofs.Audience as A
 use Rattle.lines.specs.Spans.{textAt, nextAt}
-use Rattle.lines.specs.Skips.{agentOctet, nextAgent, PassedOver}
+use Rattle.lines.specs.Skips.{agentOctet, endings, between, nextAgent, PassedOver}
 use Rattle.kinds.specs.Entries.{entryKind}
 use Rattle.lines.proofs.Forward.{next-further, next-mid, text-inside, text-next}
-use Rattle.lines.proofs.Passing.{past-on, past-inside, past-further, past-few, Unasked, agents-on}
-use Rattle.fields.specs.Fields.{fieldOf}
+use Rattle.lines.proofs.Passing.{past-on, past-inside, past-further, past-few, or-right, Unasked, agents-on, agents-further}
+use Rattle.lines.proofs.Skips.{none-between}
 use Rattle.considering.specs.declared.Considered.{Considered}
 use Rattle.considering.specs.Considering.{noneConsidered, consideredAll}
 use Rattle.hearing.specs.declared.Hearing.{Hearing}
 use Rattle.considering.proofs.Rooms.{considered-most}
 use Rattle.hearing.specs.Heard.{whom, firstOf, addressed, nothingHeard, afterAgent, afterRule}
 use Rattle.passes.specs.declared.gather.Gathered.{Gathered}
-use Rattle.passes.specs.Entries.{heardAs, ruleHeard, gatheredFrom, gathered, lineValue, valueEnd, roleNames, lineNames, lineAudience, unlessNobody, heardOther, entryAt}
-use Rattle.passes.specs.Steps.{linesPast, PassedLine}
-use Rattle.passes.proofs.Gathering.{gathered-all}
+use Rattle.passes.specs.Entries.{heardAs, ruleHeard, rulesHeard, gatheredFrom, gathered, lineValue, valueEnd, roleNames, lineNames, lineAudience, heardOther, entryAt, told}
+use Rattle.passes.specs.Steps.{firstLine, linesOn, linesPast, PassedLine, Jumped, firstRead, nextRead}
+use Rattle.passes.specs.declared.audience.Chosen.{Chosen}
+use Rattle.passes.specs.Choosing.{lineAt, ChosenOf}
+use Rattle.passes.proofs.Gathering.{gathered-heard, gathered-all}
 use Rattle.passes.proofs.Groups.{some-line-names}
+use Rattle.passes.proofs.Unheard.{unheard, unheard-any, unheard-line, unheard-from, unheard-none}
 use Rattle.passes.proofs.Heads.{isAgent, no-agent-named, first-no-agent, first-idle}
 use Rattle.passes.proofs.Lines.{entry-end, entry-rule, octets-most, value-end-inside, agent-unread, rule-unread}
-
--- the lines from a position on
-abbrev linesOn : List ℕ → Position → List Line
-linesOn file p = linesAt file (p .number) (p .place)
 
 -- a line without a role has no entry
 idle-entries : (above : ℕ) (ruled : Bool) (l : Line) (ls : List Line) → roleOf (kindOf (l .text)) ≡ none
     → entriesFrom above ruled (l ∷ ls) ≡ entriesFrom above ruled ls
 unfolding entriesFrom entryOf groupAt ruledAfter
 idle-entries above ruled l ls e = rw e
+
+-- and names nobody
+idle-names : (file who : List ℕ) (l : Line) (ls : List Line) → roleOf (kindOf (l .text)) ≡ none → any (lineNames file who) (l ∷ ls) ≡ any (lineNames file who) ls
+unfolding any
+idle-names file who l ls e = rw e
 
 -- a kind that is told for a pass gives the same entry
 entry-of : (above : ℕ) (ruled : Bool) (l : Line) (k : Kind)
@@ -84,6 +92,11 @@ module _ (file : List ℕ) (p : Position) (h : p .place .offset < length file) (
             sym (past-on (entriesFrom above ruled)
             (λ n q c l ls g. idle-entries above ruled (line n q (lineText (c ∷ l))) ls (first-idle c l g))
             file p r over);
+        named =
+            λ who.
+            sym (past-on (any (lineNames file who))
+            (λ n q c l ls g. idle-names file who (line n q (lineText (c ∷ l))) ls (first-idle c l g))
+            file p r over);
       }
 
   -- the line alone, from an octet of its text or its end on
@@ -100,11 +113,12 @@ module _ (file : List ℕ) (p : Position) (h : p .place .offset < length file) (
         entries =
             λ above ruled.
             ap (λ (x : Place). entriesFrom above ruled (linesFrom (numberAfter (p .number) 1) x 0 (drop (x .offset) file))) next;
+        named = λ who. ap (λ (x : Place). any (lineNames file who) (linesFrom (numberAfter (p .number) 1) x 0 (drop (x .offset) file))) next;
       }
 
 -- the line at a position and those behind it
 module _ (file : List ℕ) (p : Position) (h : p .place .offset < length file) where
-  abbrev kind : Kind
+  abbrev pub kind : Kind
   kind = kindOf (textAt file (p .place))
 
   abbrev here : Line
@@ -118,7 +132,7 @@ module _ (file : List ℕ) (p : Position) (h : p .place .offset < length file) w
   unfolding entriesFrom
   entries-here above ruled = rw (lines-next file (p .number) (p .place) h)
 
-  names-here : (who : List ℕ)
+  pub names-here : (who : List ℕ)
       → any (lineNames file who) (linesOn file p)
       ≡ roleNames who (lineValue file (p .place) kind) (roleOf kind) || any (lineNames file who) (linesPast file p)
   unfolding any
@@ -129,13 +143,13 @@ abbrev pub lineBehind : List ℕ → Position → Position
 lineBehind file r = record { number = numberAfter (r .number) 1; place = nextAt file (r .place) }
 
 -- what is left to be gathered from a position on, whatever the group above is
-abbrev Left : List ℕ → List ℕ → List ℕ → Hearing → Considered → Position → Gathered → Type 0
-Left file who path heard c p g =
-    (above : ℕ) × (ruled : Bool) × (gatheredFrom file who path heard c (entriesFrom above ruled (linesOn file p)) ≡ g)
+abbrev Left : List ℕ → List ℕ → List ℕ → Bool → Hearing → Considered → Position → Gathered → Type 0
+Left file who path whole heard c p g =
+    (above : ℕ) × (ruled : Bool) × (told whole (gatheredFrom file who path heard c (entriesFrom above ruled (linesOn file p))) ≡ told whole g)
 
-module _ (file who path : List ℕ) (heard : Hearing) (c : Considered) (p : Position) (g : Gathered) (left : Left file who path heard c p g) where
+module _ (file who path : List ℕ) (whole : Bool) (heard : Hearing) (c : Considered) (p : Position) (g : Gathered) (left : Left file who path whole heard c p g) where
   -- nothing at the file's end
-  pub left-none : length file ≤ p .place .offset → record { considered = c; unread = heard .unread } ≡ g
+  pub left-none : length file ≤ p .place .offset → record { considered = c; unread = if whole then heard .unread else 0 } ≡ told whole g
   unfolding gatheredFrom entriesFrom
   left-none h = rw (lines-end file (p .number) (p .place) h) at (left .2)
 
@@ -145,7 +159,7 @@ module _ (file who path : List ℕ) (heard : Hearing) (c : Considered) (p : Posi
         → ((es : List Entry) (above : ℕ) (ruled : Bool)
         → gatheredFrom file who path heard' c' es
         ≡ gatheredFrom file who path heard c (entryOf (groupAt above ruled (roleOf (kind file p h))) (here file p h) (kind file p h) (roleOf (kind file p h)) ++ es))
-        → Left file who path heard' c' (lineBehind file r) g
+        → Left file who path whole heard' c' (lineBehind file r) g
     left-by heard' c' same =
         let above = left .0 in
         let ruled = left .1 in
@@ -153,15 +167,16 @@ module _ (file who path : List ℕ) (heard : Hearing) (c : Considered) (p : Posi
         let rest = ruledAfter ruled (roleOf (kind file p h)) in (
           group,
           rest,
-          ap (gatheredFrom file who path heard' c') (past .entries group rest)
+          ap (told whole)
+              (ap (gatheredFrom file who path heard' c') (past .entries group rest)
               ∙ same (entriesFrom group rest (linesPast file p)) above ruled
-              ∙ ap (gatheredFrom file who path heard c) (sym (entries-here file p h above ruled))
+              ∙ ap (gatheredFrom file who path heard c) (sym (entries-here file p h above ruled)))
               ∙ left .2,
         )
 
     -- a line that is no rule line
     left-other : (k : Kind) → k ≡ entryKind (kind file p h) → OneOf (0 ∷ 1 ∷ 2 ∷ 3 ∷ []) (tagOf K.the-type k)
-        → Left file who path (heardOther file who (p .place) k heard) c (lineBehind file r) g
+        → Left file who path whole (heardOther file who (p .place) k heard) c (lineBehind file r) g
     unfolding gatheredFrom consideredAll ruleHeard entryOf roleOf
     left-other k e o =
         left-by (heardOther file who (p .place) k heard) c
@@ -183,7 +198,7 @@ module _ (file who path : List ℕ) (heard : Hearing) (c : Considered) (p : Posi
 
     -- a rule line
     left-rule : (side : Side) (q : Pattern) → Kind.Rule side q ≡ kind file p h
-        → Left file who path (heardAs who (rule side) (lineValue file (p .place) (Kind.Rule side q)) heard)
+        → Left file who path whole (heardAs who (rule side) (lineValue file (p .place) (Kind.Rule side q)) heard)
         (consideredAll file path c (ruleHeard file (heard .applies) (rule side) (entryAt p (Kind.Rule side q) (rule side))))
         (lineBehind file r)
         g
@@ -195,10 +210,88 @@ module _ (file who path : List ℕ) (heard : Hearing) (c : Considered) (p : Posi
 
 -- all is left at the first line
 pub left-all : (file crawler : List ℕ) (a : Audience) (path : List ℕ)
-    → Left file (whom a crawler) path nothingHeard noneConsidered (record { number = lineNumber 1; place = placeAt (skipped file) }) (gathered file crawler a path)
+    → gatheredFrom file (whom a crawler) path nothingHeard noneConsidered (entriesFrom 0 false (linesOn file (firstLine file))) ≡ gathered file crawler a path
 unfolding entries
 left-all file crawler a path =
-    (0, false, ap (λ (ls : List Line). gatheredFrom file (whom a crawler) path nothingHeard noneConsidered (entriesFrom 0 false ls)) (sym (lines-all file)) ∙ gathered-all file crawler a path)
+    ap (λ (ls : List Line). gatheredFrom file (whom a crawler) path nothingHeard noneConsidered (entriesFrom 0 false ls)) (sym (lines-all file)) ∙ gathered-all file crawler a path
+
+-- a line that is jumped to is asked as the one there, with its number
+jumped-on : {X : Type 0} (ask : List Line → X) (file : List ℕ) (p : Position) (q : Place) (r : Position) → Jumped file p q r
+    → ask (linesAt file (numberAfter (p .number) (endings (between file (p .place) q))) q) ≡ ask (linesOn file r)
+jumped-on ask file p q r j =
+    split (ltb (q .offset) (length file)) (λ e. rw (j .number (ltb-true (q .offset) (length file) e), j .place))
+    (λ e.
+    let end : length file ≤ q .offset = ltb-false (q .offset) (length file) e in
+    rw (j .place) (ap ask (lines-end file _ q end ∙ sym (lines-end file _ q end))))
+
+-- the first line has the number 1
+pub first-at : (file : List ℕ) → lineAt file (firstLine file .place) ≡ firstLine file
+first-at file =
+    let start = firstLine file .place in
+    let one : 1 + endings (between file start start) ≡ 1 = omega (arith, none-between file start) in
+    ap (λ (n : ℕ). record { number = lineNumber n; place = start }) one
+
+-- the first line that is read
+pub first-whole : (file : List ℕ) (whole : Bool) (first : Place) (r : Position) → whole ≡ true → r ≡ firstLine file
+    → Jumped file (firstLine file) (firstRead file whole first) r
+first-whole file whole first r w e =
+    rw (w, e) (record { place = refl; counted = omega arith; number = λ i. ap (λ (x : Position). x .number) (sym (first-at file)) })
+
+pub first-part : (file : List ℕ) (whole : Bool) (first : Place) (p r : Position) → whole ≡ false → p ≡ firstLine file → Jumped file p first r
+    → Jumped file (firstLine file) (firstRead file whole first) r
+first-part file whole first p r w e j = rw (w, ← e) j
+
+-- and the next one, where no other names who, or where one may
+pub next-none : (file : List ℕ) (p : Position) (only : Bool) → only ≡ true → p .number .number ≤ p .place .offset + 1 → p .place .offset < length file
+    → Jumped file p (nextRead file (p .place) only) (record { number = p .number; place = placeAt (length file) })
+next-none file p only o few h = rw o (record { place = refl; counted = omega arith; number = λ i. absurd (omega arith) })
+
+pub next-some : (file : List ℕ) (p : Position) (only : Bool) (q : Place) (r : Position) → only ≡ false → q ≡ nextAgent file (p .place) → Jumped file p q r
+    → Jumped file p (nextRead file (p .place) only) r
+next-some file p only q r o e j = rw (o, ← e) j
+
+next-read-further : (file : List ℕ) (p : Place) (only : Bool) → p .offset < length file → p .offset < nextRead file p only .offset
+next-read-further file p true h = h
+next-read-further file p false h = agents-further file p
+
+pub jumped-further : (file : List ℕ) (p : Position) (only : Bool) → p .place .offset < length file → (q : Position) → Jumped file p (nextRead file (p .place) only) q
+    → p .place .offset < q .place .offset
+jumped-further file p only h q j = omega (arith, ap (λ (x : Place). x .offset) (j .place), next-read-further file (p .place) only h)
+
+-- where no group applies, what is left is told by the rules that are heard of the lines
+left-told : (file who path : List ℕ) (heard : Hearing) (c : Considered) (above : ℕ) (ruled : Bool) (ls : List Line) → heard .applies ≡ false
+    → told false (gatheredFrom file who path heard c (entriesFrom above ruled ls)) ≡ record { considered = consideredAll file path c (unheard file who ls); unread = 0 }
+left-told file who path heard c above ruled ls a =
+    ap (told false) (gathered-heard file who path heard c (entriesFrom above ruled ls))
+    ∙ ap (λ (rs : List Rule). record { considered = consideredAll file path c rs; unread = 0 }) (unheard-any file who ls heard above ruled a)
+
+-- so lines of which no rule is heard may be passed over
+left-passed : (file who path : List ℕ) (whole : Bool) (heard : Hearing) (c : Considered) (g : Gathered) → whole ≡ false → heard .applies ≡ false → (ls ms : List Line)
+    → unheard file who ls ≡ unheard file who ms → (above : ℕ) (ruled : Bool)
+    → told whole (gatheredFrom file who path heard c (entriesFrom above ruled ls)) ≡ told whole g
+    → told whole (gatheredFrom file who path heard c (entriesFrom 0 false ms)) ≡ told whole g
+left-passed file who path true heard c g w a ls ms e above ruled l = absurd (false≢true (sym w))
+left-passed file who path false heard c g w a ls ms e above ruled l =
+    left-told file who path heard c 0 false ms a
+    ∙ ap (λ (rs : List Rule). record { considered = consideredAll file path c rs; unread = 0 }) (sym e)
+    ∙ sym (left-told file who path heard c above ruled ls a)
+    ∙ l
+
+-- a line that begins with no space, tab or "u" is no agent line: no rule is heard of it
+unheard-first : (file who : List ℕ) → Unasked agentOctet (unheard file who)
+unheard-first file who n q c l ls g = unheard-line file who (line n q (lineText (c ∷ l))) ls (no-agent-named who _ (kindOf (lineText (c ∷ l))) (first-no-agent c l g))
+
+-- up to the next line that is read none is heard
+skipped-unheard : (file who : List ℕ) (p q : Position) (only : Bool) → p .place .offset < length file
+    → (only ≡ true → any (lineNames file who) (linesPast file p) ≡ false) → Jumped file p (nextRead file (p .place) only) q
+    → unheard file who (linesPast file p) ≡ unheard file who (linesOn file q)
+unfolding rulesHeard entriesFrom
+skipped-unheard file who p q true h alone j =
+    let end : length file ≤ q .place .offset = omega (arith, ap (λ (x : Place). x .offset) (j .place)) in
+    unheard-none file who (linesPast file p) (alone refl) ∙ sym (ap (unheard file who) (lines-end file (q .number) (q .place) end))
+skipped-unheard file who p q false h alone j =
+    agents-on (unheard file who) (unheard-first file who) file (p .number) (p .place) h
+    ∙ jumped-on (unheard file who) file p (nextAgent file (p .place)) q j
 
 -- after a line that is no rule line: not an agent line,
 pub other-unheard : (file who : List ℕ) (p : Place) (k : Kind) (h : Hearing) → OneOf (0 ∷ 1 ∷ 2 ∷ 4 ∷ []) (tagOf K.the-type k) → h ≡ heardOther file who p k h
@@ -233,27 +326,100 @@ rule-compared file path short c applies side e =
     rw b (omega (arith, few, considered-most (valueOf file e) path short (ruleOf side e) c)))
     (λ b. rw b (omega arith))
 
--- what holds where the loop has come to p: what is left gives the whole, and the numbers are bounded by the place
-pub record Reached (file who path scratch₀ scratch : List ℕ) (heard : Hearing) (c : Considered) (p : Position) (g : Gathered) : Type 0 where
-  pub left : Left file who path heard c p g
+-- what holds where the loop has come to p: what is left gives the whole, the numbers are bounded by the place, and no other line names who where
+-- that is known
+pub record Reached (file who path scratch₀ scratch : List ℕ) (whole only : Bool) (heard : Hearing) (c : Considered) (p : Position) (g : Gathered) : Type 0 where
+  pub left : Left file who path whole heard c p g
   pub same : length scratch ≡ length scratch₀
   pub counted : p .number .number ≤ p .place .offset + 1
   pub compared : c .compared ≤ 18_426 * p .place .offset
   pub unread : heard .unread ≤ p .place .offset
+  pub alone : whole ≡ false → only ≡ true → p .place .offset < length file → any (lineNames file who) (linesPast file p) ≡ false
 
-module _ (file who path scratch₀ scratch : List ℕ) (heard : Hearing) (c : Considered) (p : Position) (g : Gathered) (now : Reached file who path scratch₀ scratch heard c p g) (h : p .place .offset < length file) (r : Position) (past : PassedLine file p r) (q : Position) (e : q ≡ lineBehind file r) (k : Kind) (s : k ≡ entryKind (kindOf (textAt file (p .place)))) where
-  -- past a line that is no rule line
-  pub reached-other : OneOf (0 ∷ 1 ∷ 2 ∷ 3 ∷ []) (tagOf K.the-type k) → (heard' : Hearing) → heard' ≡ heardOther file who (p .place) k heard
-      → Reached file who path scratch₀ scratch heard' c q g
-  reached-other o heard' t =
-      rw (e, t)
-      (record {
-        left = left-other file who path heard c p g (now .left) h r past k s o;
-        same = now .same;
-        counted = past .counted;
-        compared = omega (arith, now .compared, past .further);
-        unread = omega (arith, now .unread, past .further, other-unread file who (p .place) k heard);
-      })
+-- lines behind one of which none names who
+behind-alone : (file who : List ℕ) (q : Position) → any (lineNames file who) (linesOn file q) ≡ false → q .place .offset < length file
+    → any (lineNames file who) (linesPast file q) ≡ false
+behind-alone file who q unnamed h =
+    let k = kindOf (textAt file (q .place)) in
+    or-right (roleNames who (lineValue file (q .place) k) (roleOf k)) (any (lineNames file who) (linesPast file q)) (sym (names-here file q h who) ∙ unnamed)
+
+-- at the first line that is read all is left, and no line behind it names who where that is known
+module _ (file crawler path : List ℕ) (ch : Chosen) (of : ChosenOf file crawler (ch .audience) ch) where
+  abbrev who : List ℕ
+  who = whom (ch .audience) crawler
+
+  abbrev all : Gathered
+  all = gathered file crawler (ch .audience) path
+
+  pub left-first : (whole : Bool) (p : Position) → Jumped file (firstLine file) (firstRead file whole (ch .first)) p
+      → Left file who path whole nothingHeard noneConsidered p all
+  left-first true p j =
+      let ask : List Line → Gathered = λ ls. gatheredFrom file who path nothingHeard noneConsidered (entriesFrom 0 false ls) in
+      (0, false, sym (jumped-on ask file (firstLine file) (firstLine file .place) p j) ∙ ap (λ (x : Position). ask (linesOn file x)) (first-at file) ∙ left-all file crawler (ch .audience) path)
+  left-first false p j =
+      let start : unheard file who (linesOn file (firstLine file)) ≡ unheard file who (from (lineNames file who) (linesOf file))
+      = ap (unheard file who) (sym (lines-all file)) ∙ unheard-from file who (linesOf file) in
+      let there : unheard file who (from (lineNames file who) (linesOf file)) ≡ unheard file who (linesOn file p)
+      = ap (unheard file who) (of .first)
+      ∙ sym (unheard-from file who (linesOn file (lineAt file (ch .first))))
+      ∙ jumped-on (unheard file who) file (firstLine file) (ch .first) p j in
+      (0, false, left-passed file who path false nothingHeard noneConsidered all refl refl (linesOn file (firstLine file)) (linesOn file p) (start ∙ there) 0 false (ap (told false) (left-all file crawler (ch .audience) path)))
+
+  pub alone-first : (whole : Bool) (p : Position) → Jumped file (firstLine file) (firstRead file whole (ch .first)) p
+      → whole ≡ false → ch .only ≡ true → p .place .offset < length file → any (lineNames file who) (linesPast file p) ≡ false
+  alone-first true p j w o h = absurd (false≢true (sym w))
+  alone-first false p j w o h =
+      let there : p .place .offset ≡ ch .first .offset = ap (λ (x : Place). x .offset) (j .place) in
+      let same : p ≡ lineAt file (ch .first) = ap₂ (λ (n : LineNumber) (x : Place). record { number = n; place = x }) (j .number (omega (arith, h, there))) (j .place) in
+      ap (λ (x : Position). any (lineNames file who) (linesPast file x)) same ∙ of .only o
+
+module _ (file who path scratch₀ scratch : List ℕ) (whole only : Bool) (heard : Hearing) (c : Considered) (p : Position) (g : Gathered) (now : Reached file who path scratch₀ scratch whole only heard c p g) (h : p .place .offset < length file) (r : Position) (past : PassedLine file p r) (k : Kind) (s : k ≡ entryKind (kindOf (textAt file (p .place)))) where
+  -- no line behind it names who, where that is known
+  alone-past : whole ≡ false → only ≡ true → lineBehind file r .place .offset < length file → any (lineNames file who) (linesPast file (lineBehind file r)) ≡ false
+  alone-past w o i = behind-alone file who (lineBehind file r) (past .named who ∙ now .alone w o h) i
+
+  -- past a line that is no rule line, to the next line,
+  module _ (o : OneOf (0 ∷ 1 ∷ 2 ∷ 3 ∷ []) (tagOf K.the-type k)) (heard' : Hearing) (t : heard' ≡ heardOther file who (p .place) k heard) where
+    left-here : Left file who path whole heard' c (lineBehind file r) g
+    left-here = rw t (left-other file who path whole heard c p g (now .left) h r past k s o)
+
+    few-unread : heard' .unread ≤ p .place .offset + 1
+    few-unread = rw t (omega (arith, now .unread, other-unread file who (p .place) k heard))
+
+    pub reached-other : (q : Position) → q ≡ lineBehind file r → Reached file who path scratch₀ scratch whole only heard' c q g
+    reached-other q e =
+        rw e
+        (record {
+          left = left-here;
+          same = now .same;
+          counted = past .counted;
+          compared = omega (arith, now .compared, past .further);
+          unread = omega (arith, few-unread, past .further);
+          alone = alone-past;
+        })
+
+    -- or to the next that is read, where no group applies
+    left-skipped : whole ≡ false → heard' .applies ≡ false → (q : Position) → Jumped file p (nextRead file (p .place) only) q → Left file who path whole heard' c q g
+    left-skipped w a q j =
+        let above = left-here .0 in
+        let ruled = left-here .1 in
+        let same : told whole (gatheredFrom file who path heard' c (entriesFrom above ruled (linesPast file p))) ≡ told whole g
+        = ap (λ (es : List Entry). told whole (gatheredFrom file who path heard' c es)) (sym (past .entries above ruled)) ∙ left-here .2 in
+        (0, false, left-passed file who path whole heard' c g w a (linesPast file p) (linesOn file q) (skipped-unheard file who p q only h (λ o. now .alone w o h) j) above ruled same)
+
+    pub reached-skip : whole ≡ false → heard' .applies ≡ false → (q : Position) → Jumped file p (nextRead file (p .place) only) q
+        → Reached file who path scratch₀ scratch whole only heard' c q g
+    reached-skip w a q j =
+        let place : q .place .offset ≡ nextRead file (p .place) only .offset = ap (λ (x : Place). x .offset) (j .place) in
+        let on : p .place .offset < q .place .offset = jumped-further file p only h q j in
+        record {
+          left = left-skipped w a q j;
+          same = now .same;
+          counted = omega (arith, j .counted, place);
+          compared = omega (arith, now .compared, on);
+          unread = omega (arith, few-unread, on);
+          alone = λ w o i. absurd (omega (arith, i, place, ap (λ (b : Bool). nextRead file (p .place) b .offset) o));
+        }
 
   -- past a rule line
   module _ (side : Side) (pattern : Pattern) (m : k ≡ Kind.Rule side pattern) where
@@ -274,105 +440,15 @@ module _ (file who path scratch₀ scratch : List ℕ) (heard : Hearing) (c : Co
     pub reached-rule : length path ≤ 6_142 → (b : Bool) → b ≡ unreadableKind (Kind.Rule side pattern)
         → (heard' : Hearing) → heard' ≡ afterRule b heard → (c' : Considered)
         → c' ≡ consideredAll file path c (ruleHeard file (heard .applies) (rule side) (entryAt p (Kind.Rule side pattern) (rule side)))
-        → (scratch' : List ℕ) → length scratch' ≡ length scratch → Reached file who path scratch₀ scratch' heard' c' q g
-    reached-rule short b t heard' u c' v scratch' w =
+        → (scratch' : List ℕ) → length scratch' ≡ length scratch → (q : Position) → q ≡ lineBehind file r
+        → Reached file who path scratch₀ scratch' whole only heard' c' q g
+    reached-rule short b t heard' u c' v scratch' w q e =
         rw (e, v, u)
         (record {
-          left = rw (rule-heard-as b t) (left-rule file who path heard c p g (now .left) h r past side pattern (sym is-rule));
+          left = rw (rule-heard-as b t) (left-rule file who path whole heard c p g (now .left) h r past side pattern (sym is-rule));
           same = w ∙ now .same;
           counted = past .counted;
           compared = few-pairs short;
           unread = omega (arith, now .unread, past .further, one-at-most b);
+          alone = alone-past;
         })
-
--- whom a line names: an agent line,
-pub agent-audience : (file crawler : List ℕ) (p : Place) → roleOf (kindOf (textAt file p)) ≡ some agent
-    → addressed crawler (lineValue file p (kindOf (textAt file p))) ≡ lineAudience file crawler p
-agent-audience file crawler p e = rw e
-
--- and any other
-pub other-audience : (file crawler : List ℕ) (p : Place) → isAgent (fieldOf (kindOf (textAt file p))) ≡ false → Audience.Nobody ≡ lineAudience file crawler p
-other-audience file crawler p e =
-    let k = kindOf (textAt file p) in
-    let v = lineValue file p k in
-    rw (no-agent-named crawler v k e, no-agent-named everyone v k e)
-
--- whose groups apply, by the lines from a position on, where those in front don't name the crawler
-abbrev pub audienceLeft : List ℕ → List ℕ → Audience → Position → Audience
-audienceLeft file crawler before p =
-    unlessNobody (firstOf (any (lineNames file crawler) (linesOn file p)) (any (lineNames file everyone) (linesOn file p))) before
-
-pub audience-all : (file crawler : List ℕ)
-    → audienceLeft file crawler Audience.Nobody (record { number = lineNumber 1; place = placeAt (skipped file) }) ≡ audience file (entries file) crawler
-unfolding audience
-audience-all file crawler =
-    let ls = linesOn file (record { number = lineNumber 1; place = placeAt (skipped file) }) in
-    rw (some-line-names file crawler, some-line-names file everyone, lines-all file)
-    (alone (firstOf (any (lineNames file crawler) ls) (any (lineNames file everyone) ls)))
-  where
-    alone : (a : Audience) → unlessNobody a Audience.Nobody ≡ a
-    alone Audience.Crawler = refl
-    alone Audience.Everyone = refl
-    alone Audience.Nobody = refl
-
-abbrev isCrawler : Audience → Bool
-isCrawler Audience.Crawler = true
-isCrawler Audience.Everyone = false
-isCrawler Audience.Nobody = false
-
-first-crawler : (x y : Bool) → firstOf x y ≡ Audience.Crawler → x ≡ true
-first-crawler true y e = refl
-first-crawler false true e = absurd (false≢true (ap isCrawler e))
-first-crawler false false e = absurd (false≢true (ap isCrawler e))
-
-first-other : (x y : Bool) → OneOf (1 ∷ 2 ∷ []) (tagOf A.the-type (firstOf x y)) → x ≡ false
-first-other true y o = absurd (miss (1 ∷ 2 ∷ []) 0 tt o)
-first-other false y o = refl
-
--- a line that names "*" or doesn't, lines in front of it, and lines behind it that name the crawler, or "*"
-first-on : (before : Audience) (y a b : Bool) → unlessNobody (firstOf a b) (unlessNobody (firstOf false y) before) ≡ unlessNobody (firstOf a (y || b)) before
-first-on before y true b = refl
-first-on before true false true = refl
-first-on before true false false = refl
-first-on before false false b = refl
-
-module _ (file crawler : List ℕ) (before : Audience) (p : Position) where
-  -- none is left at the file's end
-  pub audience-none : length file ≤ p .place .offset → before ≡ audienceLeft file crawler before p
-  unfolding any
-  audience-none h = rw (lines-end file (p .number) (p .place) h)
-
-  module _ (h : p .place .offset < length file) where
-    -- the line here names the crawler, and "*"
-    abbrev names : List ℕ → Bool
-    names who = roleNames who (lineValue file (p .place) (kind file p h)) (roleOf (kind file p h))
-
-    pub audience-here : lineAudience file crawler (p .place) ≡ Audience.Crawler → Audience.Crawler ≡ audienceLeft file crawler before p
-    audience-here e = rw (names-here file p h crawler, first-crawler (names crawler) (names everyone) e)
-
-    -- or it doesn't name the crawler
-    pub audience-turn : (here : Audience) → here ≡ lineAudience file crawler (p .place)
-        → OneOf (1 ∷ 2 ∷ []) (tagOf A.the-type here) → (after : Audience) → after ≡ unlessNobody here before → (q : Place) → q ≡ nextAgent file (p .place)
-        → (n : LineNumber) × (audienceLeft file crawler after (record { number = n; place = q }) ≡ audienceLeft file crawler before p)
-    unfolding any
-    audience-turn here e o after t q s =
-        let a = any (lineNames file crawler) (linesPast file p) in
-        let b = any (lineNames file everyone) (linesPast file p) in
-        let on : ask (linesPast file p) ≡ unlessNobody (firstOf a (names everyone || b)) before = rw other (first-on before (names everyone) a b) in
-        let all : unlessNobody (firstOf a (names everyone || b)) before ≡ audienceLeft file crawler before p
-        = rw (names-here file p h crawler, names-here file p h everyone, other) in
-        let next = agents-on ask unnamed file (p .number) (p .place) h in
-        (next .0, rw (s, t, e) (sym (next .1) ∙ on ∙ all))
-      where
-        other : names crawler ≡ false
-        other = first-other (names crawler) (names everyone) (rw e at o)
-
-        ask : List Line → Audience
-        ask ls =
-            unlessNobody (firstOf (any (lineNames file crawler) ls) (any (lineNames file everyone) ls)) (unlessNobody (lineAudience file crawler (p .place)) before)
-
-        unnamed : Unasked agentOctet ask
-        unnamed n q c l ls g =
-            let k = kindOf (lineText (c ∷ l)) in
-            let v = lineValue file q k in
-            rw (no-agent-named crawler v k (first-no-agent c l g), no-agent-named everyone v k (first-no-agent c l g))

@@ -52,6 +52,10 @@ gathered file crawler a path =
       unread = unread file (entries file);
     }
 
+-- what is told of it: the unread count, only where the whole file is read
+abbrev pub told : Bool → Gathered → Gathered
+told whole g = record { considered = g .considered; unread = if whole then g .unread else 0 }
+
 -- the value of a line of kind k that begins at p, and where it ends
 abbrev pub lineValue : List ℕ → Place → Kind → List ℕ
 lineValue file p k = octetsAt file (placeInFile p k) (lengthOf k)
@@ -75,12 +79,6 @@ lineAudience file crawler p =
     let k = kindOf (textAt file p) in
     let v = lineValue file p k in
     firstOf (roleNames crawler v (roleOf k)) (roleNames everyone v (roleOf k))
-
--- whom a line names, or else whom those in front of it do
-abbrev pub unlessNobody : Audience → Audience → Audience
-unlessNobody Audience.Crawler before = Audience.Crawler
-unlessNobody Audience.Everyone before = Audience.Everyone
-unlessNobody Audience.Nobody before = before
 
 -- after a line that is no rule line
 abbrev pub heardOther : List ℕ → List ℕ → Place → Kind → Hearing → Hearing

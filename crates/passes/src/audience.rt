@@ -10,7 +10,8 @@ ghost use Rattle.protocol.specs.Rules.{audience};
 ghost use Rattle.protocol.specs.Classes.{classTable};
 ghost use Rattle.kinds.specs.Entries.{valueFront};
 ghost use Rattle.hearing.specs.Heard.{addressed};
-ghost use Rattle.passes.specs.Entries.{lineAudience, unlessNobody};
+ghost use Rattle.passes.specs.Entries.{lineAudience};
+ghost use Rattle.passes.specs.Choosing.{afterLine, ChosenOf};
 use fields::Field;
 use protocol::Audience;
 use protocol::ClassTable;
@@ -64,31 +65,58 @@ fn line_audience(classes: &ClassTable, file: &[u8], at: Place, name: &[u8]) -> A
     value_audience(classes, name, &rest[value..])
 }
 
-// Whom a line names, or else whom those in front of it do.
-fn unless_nobody(here: Audience, before: Audience) -> Audience
-    ensures { λ r. ⌜ r ≡ unlessNobody here before ⌝ }
+// Whose groups apply; where the first line that names them begins, or the file's end; and whether it is known that no other line does.
+pub struct Chosen {
+    pub audience: Audience,
+    pub first: Place,
+    pub only: bool,
+}
+
+// After one line more, which doesn't name the crawler.
+fn after_line(chosen: Chosen, here: Audience, at: Place) -> Chosen
+    ensures { λ r. ⌜ r ≡ afterLine (chosen .audience) here at chosen ⌝ }
 {
-    match here {
-        Audience::Crawler => here,
-        Audience::Everyone => here,
-        Audience::Nobody => before,
+    let Audience::Everyone = here else {
+        return chosen;
+    };
+    let audience = chosen.audience;
+    if let Audience::Everyone = audience {
+        let first = chosen.first;
+        return Chosen {
+            audience,
+            first,
+            only: false,
+        };
+    }
+    Chosen {
+        audience: here,
+        first: at,
+        only: true,
     }
 }
 
 // The first agent line that names the crawler tells; otherwise it matters whether one names "*".
-pub fn choose_audience(classes: &ClassTable, file: &[u8], name: &[u8]) -> Audience
+pub fn choose_audience(classes: &ClassTable, file: &[u8], name: &[u8]) -> Chosen
     requires { ⌜ now classes ≡ classTable ⌝ }
-    ensures { λ r. ⌜ r ≡ audience (now (file .entry)) (entries (now (file .entry))) (now (name .entry)) ⌝ }
+    ensures { λ r. ⌜ ChosenOf (now (file .entry)) (now (name .entry)) (audience (now (file .entry)) (entries (now (file .entry))) (now (name .entry))) r ⌝ }
 {
-    let mut audience = Audience::Nobody;
+    let mut chosen = Chosen {
+        audience: Audience::Nobody,
+        first: Place { offset: file.len() },
+        only: true,
+    };
     let mut at = lines::span::first_place(file);
     while at.offset < file.len() {
         let here = line_audience(classes, file, at, name);
         if let Audience::Crawler = here {
-            return here;
+            return Chosen {
+                audience: here,
+                first: at,
+                only: false,
+            };
         }
-        audience = unless_nobody(here, audience);
+        chosen = after_line(chosen, here, at);
         at = lines::skip::next_agent(file, at);
     }
-    audience
+    chosen
 }

@@ -1,8 +1,11 @@
 // What the agent and rule lines of a file come to.
 
 ghost use mathlib.Core.Path.{_≡_};
+ghost use mathlib.Core.Bool.{_||_};
 ghost use Prim.Native.Nat.{_+_, _≤_, _<_, _^_};
 ghost use lib.ListN.{length};
+ghost use Rattle.lists.specs.Choice.{if_then_else_};
+ghost use Rattle.protocol.specs.Lines.{skipped};
 ghost use Rattle.protocol.specs.declared.Kind.{Kind};
 ghost use Rattle.protocol.specs.Kinds.{kindOf, unreadableKind};
 ghost use Rattle.protocol.specs.Entries.{rule};
@@ -12,8 +15,10 @@ ghost use Rattle.lines.specs.Skips.{PassedOver};
 ghost use Rattle.kinds.specs.Entries.{entryKind};
 ghost use Rattle.hearing.specs.Heard.{whom};
 ghost use Rattle.considering.specs.Considering.{consideredAll};
-ghost use Rattle.passes.specs.Entries.{heardOther, entryAt, ruleHeard, gathered};
-ghost use Rattle.passes.specs.Steps.{Room, PassedLine, lineEntry, nextLook};
+ghost use Rattle.passes.specs.Entries.{heardOther, entryAt, ruleHeard, gathered, told};
+ghost use Rattle.passes.specs.Steps.{Room, PassedLine, lineEntry, nextLook, Jumped, firstLine, firstRead, nextRead};
+ghost use Rattle.passes.specs.Choosing.{ChosenOf};
+use crate::audience::Chosen;
 use considering::Considered;
 use hearing::Hearing;
 use kinds::entry::Entry;
@@ -21,6 +26,7 @@ use protocol::Agent;
 use protocol::Audience;
 use protocol::ClassTable;
 use protocol::Kind;
+use protocol::LineNumber;
 use protocol::Pattern;
 use protocol::Place;
 use protocol::Position;
@@ -145,22 +151,85 @@ fn next_look(soonest: Place, over: Place) -> Place
     Place { offset: next }
 }
 
-// After all lines of a file, for those whose groups apply.
+// The line that begins at `to`, with its number; its number is left free at the file's end.
+fn jump(file: &[u8], at: Position, to: Place) -> Position
+    requires { ⌜ (at .number .number ≤ at .place .offset + 1) × (at .place .offset ≤ to .offset) × (length (now file) ≤ 512000) ⌝ }
+    ensures { λ r. ⌜ Jumped (now (file .entry)) at to r ⌝ }
+{
+    let number = at.number;
+    if file.len() <= to.offset {
+        return Position { number, place: to };
+    }
+    let count = number.number + lines::skip::count_endings(file, at.place, to);
+    Position {
+        number: LineNumber { number: count },
+        place: to,
+    }
+}
+
+// The first line to be read: the file's, where the whole file is read, or the first that names those whose groups apply.
+fn first_read(file: &[u8], whole: bool, first: Place) -> Position
+    requires { ⌜ (skipped (now file) ≤ first .offset) × (length (now file) ≤ 512000) ⌝ }
+    ensures { λ r. ⌜ Jumped (now (file .entry)) (firstLine (now (file .entry))) (firstRead (now (file .entry)) whole first) r ⌝ }
+{
+    let at = crate::line::first_line(file);
+    if whole {
+        return at;
+    }
+    jump(file, at, first)
+}
+
+// Behind a line of a group that doesn't apply: the next line that may be an agent line, or the file's end where no other names those whose groups
+// apply.
+fn next_group(file: &[u8], at: Position, only: bool) -> Position
+    requires { ⌜ (at .number .number ≤ at .place .offset + 1) × (at .place .offset < length (now file)) × (length (now file) ≤ 512000) ⌝ }
+    ensures { λ r. ⌜ Jumped (now (file .entry)) at (nextRead (now (file .entry)) (at .place) only) r ⌝ }
+{
+    if only {
+        let number = at.number;
+        return Position {
+            number,
+            place: Place { offset: file.len() },
+        };
+    }
+    jump(file, at, lines::skip::next_agent(file, at.place))
+}
+
+// Every line is to be read: the group above applies, or the whole file is read.
+fn reads_on(applies: bool, whole: bool) -> bool
+    ensures { λ r. ⌜ r ≡ (applies || whole) ⌝ }
+{
+    if applies {
+        return true;
+    }
+    whole
+}
+
+// The unread count, if the whole file was read: else 0.
+fn unread_told(unread: usize, whole: bool) -> usize
+    ensures { λ r. ⌜ r ≡ (if whole then unread else 0) ⌝ }
+{
+    if whole { unread } else { 0 }
+}
+
+// After all lines of a file, for those whose groups apply. Only for the unread count is the whole file read.
 pub fn gather(
     classes: &ClassTable,
     file: &[u8],
-    audience: Audience,
+    whole: bool,
+    chosen: Chosen,
     name: &[u8],
     path: &[u8],
     scratch: &mut [u8],
 ) -> Gathered
-    requires { ⌜ (now classes ≡ classTable) × (length (now file) ≤ 512000) × (length (now path) ≤ 6142) × (length (now path) ≤ length (now scratch)) ⌝ }
-    ensures { λ r. ⌜ r ≡ gathered (now (file .entry)) (now (name .entry)) audience (now (path .entry)) ⌝ }
+    requires { ⌜ (now classes ≡ classTable) × ChosenOf (now file) (now name) (chosen .audience) chosen × (length (now file) ≤ 512000) × (length (now path) ≤ 6142) × (length (now path) ≤ length (now scratch)) ⌝ }
+    ensures { λ r. ⌜ r ≡ told whole (gathered (now (file .entry)) (now (name .entry)) (chosen .audience) (now (path .entry))) ⌝ }
     ensures { λ _. ⌜ length (now (scratch .exit)) ≡ length (now (scratch .entry)) ⌝ }
 {
+    let audience = chosen.audience;
     let mut h = hearing::nothing_heard();
     let mut c = considering::none_considered();
-    let mut at = crate::line::first_line(file);
+    let mut at = first_read(file, whole, chosen.first);
     let mut soonest = at.place;
     while at.place.offset < file.len() {
         let here = at;
@@ -172,6 +241,9 @@ pub fn gather(
         at = crate::line::next_line(over, lines::span::next_place(classes, file, over.place));
         let Kind::Rule(side, pattern) = kind else {
             h = hear_other(classes, h, audience, name, file, here.place, kind);
+            if !reads_on(h.applies, whole) {
+                at = next_group(file, here, chosen.only);
+            }
             continue;
         };
         c = consider_rule(c, h.applies, file, here, side, pattern, path, scratch);
@@ -179,6 +251,6 @@ pub fn gather(
     }
     Gathered {
         considered: c,
-        unread: h.unread,
+        unread: unread_told(h.unread, whole),
     }
 }

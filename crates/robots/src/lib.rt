@@ -31,7 +31,7 @@ pub extern "C" fn robots_decide_disallow(file: &[u8], name: &[u8], path: &[u8]) 
     ensures { λ r. ⌜ (r ≡ 1) ↔ Shut (now (file .entry)) (now (name .entry)) (now (path .entry)) ⌝ }
 {
     let classes = octets::classes();
-    let answer = decide::answers::decide(&classes, file, name, path);
+    let answer = decide::answers::decide(&classes, false, file, name, path);
     let side = answer.side;
     numbers::side_number(side)
 }
@@ -42,7 +42,7 @@ pub extern "C" fn robots_decide_line(file: &[u8], name: &[u8], path: &[u8]) -> u
     ensures { λ r. ⌜ r ≡ decide (now (file .entry)) (now (name .entry)) (now (path .entry)) .line .number ⌝ }
 {
     let classes = octets::classes();
-    let answer = decide::answers::decide(&classes, file, name, path);
+    let answer = decide::answers::decide(&classes, false, file, name, path);
     answer.line.number
 }
 
@@ -52,7 +52,7 @@ pub extern "C" fn robots_decide_place(file: &[u8], name: &[u8], path: &[u8]) -> 
     ensures { λ r. ⌜ r ≡ decide (now (file .entry)) (now (name .entry)) (now (path .entry)) .place .offset ⌝ }
 {
     let classes = octets::classes();
-    let answer = decide::answers::decide(&classes, file, name, path);
+    let answer = decide::answers::decide(&classes, false, file, name, path);
     answer.place.offset
 }
 
@@ -63,7 +63,7 @@ pub extern "C" fn robots_decide_length(file: &[u8], name: &[u8], path: &[u8]) ->
     ensures { λ r. ⌜ decide (now (file .entry)) (now (name .entry)) (now (path .entry)) .place .offset + r ≤ length (now (file .entry)) ⌝ }
 {
     let classes = octets::classes();
-    let answer = decide::answers::decide(&classes, file, name, path);
+    let answer = decide::answers::decide(&classes, false, file, name, path);
     answer.length
 }
 
@@ -73,7 +73,7 @@ pub extern "C" fn robots_decide_unread(file: &[u8], name: &[u8], path: &[u8]) ->
     ensures { λ r. ⌜ r ≡ decide (now (file .entry)) (now (name .entry)) (now (path .entry)) .unread ⌝ }
 {
     let classes = octets::classes();
-    let answer = decide::answers::decide(&classes, file, name, path);
+    let answer = decide::answers::decide(&classes, true, file, name, path);
     answer.unread
 }
 
@@ -84,7 +84,7 @@ pub extern "C" fn robots_decide_compared(file: &[u8], name: &[u8], path: &[u8]) 
     ensures { λ r. ⌜ r ≤ total (weightOf (now (file .entry))) (walkedRules (now (file .entry)) (now (name .entry))) * length (normalPath (now (path .entry))) ⌝ }
 {
     let classes = octets::classes();
-    let answer = decide::answers::decide(&classes, file, name, path);
+    let answer = decide::answers::decide(&classes, false, file, name, path);
     answer.compared
 }
 

@@ -1,7 +1,8 @@
 -- `decide::answers::audience_for` meets its contract. Assumes nothing.
-use mathlib.Core.Path.{sym, _∙_}
+use mathlib.Core.Path.{refl, sym, _∙_}
 use borrow.Author.Needs.{needs}
 use Rattle.passes.specs.Entries.{audienceFor}
+use Rattle.passes.proofs.Choices.{mark-inside, chosen-nobody}
 use Rattle.decide.proofs.answers.audience_for.Statement.{statement}
 use Rattle.decide.proofs.answers.audience_for.Tie as tie
 
@@ -10,7 +11,10 @@ is-robots-file-requires c κs = search needs
 
 returns : tie.Need-returns
 unfolding audienceFor
-returns c = rw (sym (c .before .is-robots-file .ensures) ∙ c .if1 .taken)
+returns c =
+    let r = c .before in
+    let a = r .before .before .before .before .args in
+    chosen-nobody (a .file .now) (a .name .now) _ _ refl (rw (sym (r .is-robots-file .ensures) ∙ c .if1 .taken)) (mark-inside (a .file .now))
 
 choose-audience-requires : tie.Need-choose-audience-requires
 choose-audience-requires c κs = search needs

@@ -7,7 +7,7 @@ use borrow.Author.Needs.{needs}
 use Rattle.fields.specs.declared.Field.{Field}
 use Rattle.fields.specs.Names.{beginsName}
 use Rattle.fields.specs.Near.{agentOnly}
-use Rattle.fields.proofs.Nears.{near-agent, not-agent-head}
+use Rattle.fields.proofs.Nears.{near-agent, not-agent-head, not-agent-first}
 use Rattle.fields.proofs.near.agent_head.Statement.{statement}
 use Rattle.fields.proofs.near.agent_head.Tie as tie
 
@@ -54,6 +54,25 @@ returns-2 c =
 lead-requires : tie.Need-lead-requires
 lead-requires c κs = search needs
 
+-- the octets by which it is indented
+module _ (c : tie.After-lead) where
+  abbrev begun : tie.After-begins-agent
+  begun = c .before .before .before .before .before
+
+may-be-agent-requires : tie.Need-may-be-agent-requires
+may-be-agent-requires c κs = search needs
+
+no-head-requires-2 : tie.Need-no-head-requires-2
+no-head-requires-2 c κs = search needs
+
+returns-3 : tie.Need-returns-3
+returns-3 c =
+    let first = c .before .before in
+    let led = first .before in
+    c .no-head2 .ensures
+    ∙ not-agent-first (text (begun led)) (led .lead .result) (led .lead .ensures)
+    (sym (first .may-be-agent .ensures) ∙ not-true (first .may-be-agent .result) (c .before .if5 .taken))
+
 indented-requires : tie.Need-indented-requires
 indented-requires c κs = search needs
 
@@ -63,10 +82,10 @@ is-told-requires c κs = search needs
 agent-only-requires : tie.Need-agent-only-requires
 agent-only-requires c κs = search needs
 
-returns-3 : tie.Need-returns-3
-returns-3 c =
+returns-4 : tie.Need-returns-4
+returns-4 c =
     let told = c .before .before in
-    c .agent-only .ensures ∙ ap agentOnly (told .before .indented .ensures (sym (told .is-told .ensures) ∙ c .before .if5 .taken))
+    c .agent-only .ensures ∙ ap agentOnly (told .before .indented .ensures (sym (told .is-told .ensures) ∙ c .before .if6 .taken))
 
 head-of-requires : tie.Need-head-of-requires
 head-of-requires c κs = search needs
@@ -74,8 +93,8 @@ head-of-requires c κs = search needs
 agent-only-requires-2 : tie.Need-agent-only-requires-2
 agent-only-requires-2 c κs = search needs
 
-returns-4 : tie.Need-returns-4
-returns-4 c = c .agent-only2 .ensures ∙ ap agentOnly (c .before .head-of .ensures)
+returns-5 : tie.Need-returns-5
+returns-5 c = c .agent-only2 .ensures ∙ ap agentOnly (c .before .head-of .ensures)
 
 pub agent-head-spec : {M : Type 1} → statement M
 agent-head-spec =
@@ -90,10 +109,13 @@ agent-head-spec =
     no-head-requires
     returns-2
     lead-requires
+    may-be-agent-requires
+    no-head-requires-2
+    returns-3
     indented-requires
     is-told-requires
     agent-only-requires
-    returns-3
+    returns-4
     head-of-requires
     agent-only-requires-2
-    returns-4)
+    returns-5)

@@ -75,12 +75,7 @@ module _ (c : tie.After-is-quiet Inv-loop μ-loop) where
   turn = c .before .before .before .before
 
 front-agent-requires : tie.Need-front-agent-requires Inv-loop μ-loop
-front-agent-requires c κs =
-    let q = c .before in (
-      simp (length-take, length-drop) (omega arith),
-      simp (length-take, length-drop) (omega arith),
-      sym (q .is-quiet .ensures) ∙ not-true (q .is-quiet .result) (c .if1 .taken),
-    )
+front-agent-requires c κs = (simp (length-take, length-drop) (omega arith), simp (length-take, length-drop) (omega arith))
 
 -- there is an agent line
 found : (c : tie.After-front-agent Inv-loop μ-loop)

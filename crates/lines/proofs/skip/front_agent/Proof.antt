@@ -1,14 +1,12 @@
 -- `lines::skip::front_agent` meets its contract: what is found, or what is left, whichever comes first, is what is sought. Assumes nothing.
-use Prim.Native.Nat.{ℕ, _+_, _-_, _≤_, min}
+use Prim.Native.Nat.{_+_, _-_, _≤_, min}
 use mathlib.Core.Path.{_≡_, sym, ap₂, _∙_}
 use mathlib.Core.Bool.{_&&_}
-use mathlib.Core.List.{List, zip}
+use mathlib.Core.List.{zip}
 use mathlib.Core.Logic.{⊎-elim}
 use native.Mathlib.Omega.{arith}
-use lib.ListN.{length, drop, length-drop}
-use borrow.Author.Tests.{not-false, ltb-true}
-use Rattle.lists.specs.Lists.{any}
-use Rattle.lists.proofs.Scans.{upTo-fits, any-found}
+use lib.ListN.{drop}
+use Rattle.lists.proofs.Scans.{upTo-fits}
 use Rattle.lines.specs.Skips.{agentOctet, opens, agentFront}
 use Rattle.lines.proofs.Pairs.{zip-length, zip-next}
 use Rattle.lines.proofs.Skips.{front-here, front-on}
@@ -17,7 +15,7 @@ use Rattle.lines.proofs.skip.front_agent.Tie as tie
 
 abbrev Inv-loop : tie.InvT-loop
 Inv-loop b behind first₀ i₀ first i =
-    (i ≤ 64) × (first ≤ 255) × (min first (i + agentFront (drop i (zip b behind))) ≡ agentFront (zip b behind))
+    (i ≤ 64) × (first ≤ 64) × (min first (i + agentFront (drop i (zip b behind))) ≡ agentFront (zip b behind))
 
 abbrev μ-loop : tie.MeasureT-loop
 μ-loop b behind first₀ i₀ first i = 64 - i
@@ -70,20 +68,7 @@ cast-result : tie.Need-cast-result Inv-loop μ-loop
 cast-result c = omega arith
 
 returns : tie.Need-returns Inv-loop μ-loop
-returns c =
-    let l = c .before in
-    let s = l .before .before .before in
-    let a = s .args in
-    let pairs : List (ℕ × ℕ) = zip (a .b .now) (a .behind .now) in
-    let found = ltb-true (agentFront pairs) (length pairs) (any-found (opens agentOctet) pairs ∙ not-false (any (opens agentOctet) pairs) (s .pre .2)) in
-    omega (
-      arith,
-      found,
-      l .loop .inv .2,
-      zip-length (a .b .now) (a .behind .now),
-      length-drop (l .loop .i) pairs,
-      upTo-fits (opens agentOctet) (drop (l .loop .i) pairs),
-    )
+returns c = omega (arith, c .before .loop .inv .2)
 
 pub front-agent-spec : {M : Type 1} → statement M
 front-agent-spec =

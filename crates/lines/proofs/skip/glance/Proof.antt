@@ -41,6 +41,9 @@ ends-line-requires c κs = tt
 begins-remark-requires : tie.Need-begins-remark-requires Inv-loop μ-loop
 begins-remark-requires c κs = tt
 
+closes-line-requires : tie.Need-closes-line-requires Inv-loop μ-loop
+closes-line-requires c κs = tt
+
 -- the octet that is looked at, with the one behind it
 module _ (c : tie.At-loop Inv-loop μ-loop) where
   abbrev start : tie.Start Inv-loop μ-loop
@@ -67,10 +70,12 @@ found-here c =
 
 module _ (c : tie.Joined2 Inv-loop μ-loop) where
   abbrev turn : tie.At-loop Inv-loop μ-loop
-  turn = c .before .before .before .before .before .before .before .before
+  turn = c .before .before .before .before .before .before .before .before .before
 
   closed-here : c .if2 .ends ≡ oneIf (closing turn)
-  closed-here = ⊎-elim (λ v. v .1 ∙ sym (ap oneIf (v .0 .taken))) (λ v. v .1 ∙ sym (ap oneIf (v .0 .left))) (c .if2 .came)
+  closed-here =
+      let told = sym (c .before .closes-line .ensures) in
+      ⊎-elim (λ v. v .1 ∙ sym (ap oneIf (told ∙ v .0 .taken))) (λ v. v .1 ∙ sym (ap oneIf (told ∙ v .0 .left))) (c .if2 .came)
 
   few : c .if2 .ends ≤ 1
   few = ⊎-elim (λ v. omega (arith, v .1)) (λ v. omega (arith, v .1)) (c .if2 .came)
@@ -101,7 +106,7 @@ loop-again c =
       omega (arith, few j, inv .1),
       omega (arith, closed-here j, inv .2, endings-next (b t) (behind t) i (omega arith) (omega arith)),
       inv .3 || opens entryOctet (octets t),
-      ap₂ bitOr (inv .4) (found-here (j .before .before)) ∙ either (inv .3) (opens entryOctet (octets t)),
+      ap₂ bitOr (inv .4) (found-here (j .before .before .before)) ∙ either (inv .3) (opens entryOctet (octets t)),
       or-assoc (inv .3) (opens entryOctet (octets t)) rest
           ∙ ap (λ (x : Bool). inv .3 || x) (sym (opens-next (b t) (behind t) i (omega arith) (omega arith) entryOctet))
           ∙ inv .5,
@@ -136,6 +141,7 @@ glance-spec =
     shared-slice-read-y
     ends-line-requires
     begins-remark-requires
+    closes-line-requires
     add-n
     add-i
     loop-less

@@ -1,13 +1,13 @@
 -- `lines::skip::next_agent` meets its contract: what is near, or what is behind that, gives the whole. Assumes nothing.
-use Prim.Native.Nat.{ℕ, _+_, _-_}
+use Prim.Native.Nat.{ℕ, _+_, _-_, _≤_, _<_}
 use mathlib.Core.Path.{_≡_, ap, _∙_}
-use mathlib.Core.List.{List}
+use mathlib.Core.List.{List, zip}
 use native.Mathlib.Omega.{arith}
-use lib.ListN.{drop, length-take, length-drop}
+use lib.ListN.{take, drop, length-take, length-drop}
 use Rattle.lists.proofs.Scans.{rest-of}
 use Rattle.protocol.specs.Lines.{placeAt}
 use Rattle.lines.specs.Skips.{pairs, agentFront}
-use Rattle.lines.proofs.Pairs.{pairs-rest}
+use Rattle.lines.proofs.Pairs.{pairs-part, pairs-rest, pairs-few}
 use Rattle.lines.proofs.Skips.{front-near, front-behind, front-fits}
 use Rattle.lines.proofs.skip.next_agent.Statement.{statement}
 use Rattle.lines.proofs.skip.next_agent.Tie as tie
@@ -19,6 +19,10 @@ module _ (c : tie.Start) where
 
   abbrev start : ℕ
   start = c .args .from .offset
+
+  -- the octets from i on, in front of the first behind which an agent line may begin
+  abbrev front : ℕ → ℕ
+  front i = agentFront (drop i (pairs text))
 
 sub-if1 : tie.Need-sub-if1
 sub-if1 c = omega arith
@@ -40,7 +44,7 @@ module _ (c : tie.After-tail-agent) where
   abbrev tail : tie.Start
   tail = c .before .before .before .before
 
-  tail-found : c .tail-agent .result ≡ agentFront (drop (start tail) (pairs (text tail))) + 1
+  tail-found : c .tail-agent .result ≡ front tail (start tail) + 1
   tail-found = rw (rest-of (start tail) (text tail), pairs-rest (text tail) (start tail)) at (c .tail-agent .ensures)
 
 add-found : tie.Need-add-found
@@ -72,27 +76,102 @@ module _ (c : tie.After-near-agent) where
   abbrev six : start near + 6 - start near ≡ 5 + 1
   six = omega arith
 
+  abbrev few : pairs (take (start near + 6 - start near) (drop (start near) (text near))) ≡ take 5 (drop (start near) (pairs (text near)))
+  few = pairs-few (text near) (start near) 5 _ six
+
+  near-found : c .near-agent .result < 6 → c .near-agent .result ≡ front near (start near) + 1
+  near-found h =
+      omega (arith, c .near-agent .ensures, front-near (text near) (start near) 5 (omega arith) _ few (omega (arith, h, c .near-agent .ensures)))
+
+  near-none : 6 ≤ c .near-agent .result → front near (start near) ≡ 5 + front near (start near + 5)
+  near-none h = front-behind (text near) (start near) 5 (omega arith) _ few (omega (arith, h, c .near-agent .ensures))
+
 add-found-2 : tie.Need-add-found-2
 add-found-2 c = omega arith
 
 returns-2 : tie.Need-returns-2
-returns-2 c =
-    let l = c .before in
-    let n = near l in
-    ap placeAt (omega (arith, l .near-agent .ensures, front-near (text n) (start n) 5 _ (six l) (omega arith) (omega (arith, l .near-agent .ensures))))
+returns-2 c = ap placeAt (omega (arith, near-found (c .before) (omega arith)))
 
 add-on : tie.Need-add-on
 add-on c = omega arith
 
+add-front-agent : tie.Need-add-front-agent
+add-front-agent c = omega arith
+
+sub-front-agent : tie.Need-sub-front-agent
+sub-front-agent c = omega arith
+
+part-front-agent-start : tie.Need-part-front-agent-start
+part-front-agent-start c = omega arith
+
+part-front-agent-end : tie.Need-part-front-agent-end
+part-front-agent-end c = omega arith
+
+add-front-agent-2 : tie.Need-add-front-agent-2
+add-front-agent-2 c = omega arith
+
+add-front-agent-3 : tie.Need-add-front-agent-3
+add-front-agent-3 c = omega arith
+
+sub-front-agent-2 : tie.Need-sub-front-agent-2
+sub-front-agent-2 c = omega arith
+
+part-front-agent-start-2 : tie.Need-part-front-agent-start-2
+part-front-agent-start-2 c = omega arith
+
+part-front-agent-end-2 : tie.Need-part-front-agent-end-2
+part-front-agent-end-2 c = omega arith
+
+front-agent-requires : tie.Need-front-agent-requires
+front-agent-requires c κs = (simp (length-take, length-drop) (omega arith), simp (length-take, length-drop) (omega arith))
+
+-- the block behind five of them is looked at
+module _ (c : tie.After-front-agent) where
+  abbrev six-seen : tie.After-near-agent
+  six-seen = c .before .before .before .before
+
+  abbrev begin : tie.Start
+  begin = near six-seen
+
+  abbrev on : ℕ
+  on = start begin + 5
+
+  abbrev sizes : (on + 64 - on ≡ 64) × (on + 65 - (on + 1) ≡ 64)
+  sizes = (omega arith, omega arith)
+
+  abbrev block : zip (take (on + 64 - on) (drop on (text begin))) (take (on + 65 - (on + 1)) (drop (on + 1) (text begin))) ≡ take 64 (drop on (pairs (text begin)))
+  block = pairs-part (text begin) on 64 _ _ (sizes .0) (sizes .1)
+
+  behind-five : front begin (start begin) ≡ 5 + front begin on
+  behind-five = near-none six-seen (omega arith)
+
+  front-found : c .front-agent .result < 64 → c .front-agent .result ≡ front begin on
+  front-found h =
+      let e = c .front-agent .ensures in
+      e ∙ front-near (text begin) on 64 (omega arith) _ block (omega (arith, h, e))
+
+  front-none : 64 ≤ c .front-agent .result → front begin on ≡ 64 + front begin (on + 64)
+  front-none h = front-behind (text begin) on 64 (omega arith) _ block (omega (arith, h, c .front-agent .ensures))
+
+add-found-3 : tie.Need-add-found-3
+add-found-3 c = omega arith
+
+add-found-4 : tie.Need-add-found-4
+add-found-4 c = omega arith
+
+returns-3 : tie.Need-returns-3
+returns-3 c = let f = c .before in ap placeAt (omega (arith, behind-five f, front-found f (omega arith)))
+
+add-far : tie.Need-add-far
+add-far c = omega arith
+
 far-agent-requires : tie.Need-far-agent-requires
 far-agent-requires c κs = omega arith
 
-returns-3 : tie.Need-returns-3
-returns-3 c =
-    let l = c .before .before in
-    let n = near l in
-    let behind = front-behind (text n) (start n) 5 _ (six l) (omega arith) (omega (arith, l .near-agent .ensures)) in
-    c .far-agent .ensures ∙ ap placeAt (omega (arith, behind))
+returns-4 : tie.Need-returns-4
+returns-4 c =
+    let f = c .before .before in
+    c .far-agent .ensures ∙ ap placeAt (omega (arith, behind-five f, front-none f (omega arith)))
 
 pub next-agent-spec : {M : Type 1} → statement M
 next-agent-spec =
@@ -113,5 +192,19 @@ next-agent-spec =
     add-found-2
     returns-2
     add-on
+    add-front-agent
+    sub-front-agent
+    part-front-agent-start
+    part-front-agent-end
+    add-front-agent-2
+    add-front-agent-3
+    sub-front-agent-2
+    part-front-agent-start-2
+    part-front-agent-end-2
+    front-agent-requires
+    add-found-3
+    add-found-4
+    returns-3
+    add-far
     far-agent-requires
-    returns-3)
+    returns-4)

@@ -19,7 +19,7 @@ use Rattle.hearing.specs.Heard.{addressed}
 use Rattle.passes.specs.Entries.{lineValue}
 use Rattle.passes.proofs.Heads.{head-no-agent, agent-inside, agent-kind}
 use Rattle.passes.proofs.Named.{agent-value}
-use Rattle.passes.proofs.Turns.{agent-audience, other-audience}
+use Rattle.passes.proofs.Choices.{agent-audience, other-audience}
 use Rattle.passes.proofs.audience.line_audience.Statement.{statement}
 use Rattle.passes.proofs.audience.line_audience.Tie as tie
 
