@@ -1,8 +1,8 @@
 -- Quiet octets and the line endings among them: octet by octet, and from one block to the next. Assumes nothing.
 use Prim.Native.Nat.{ℕ, suc, _+_, _-_, _*_, _≤_, _<_}
 use mathlib.Core.Path.{_≡_, refl, sym, ap, ap₂, _∙_}
-use mathlib.Core.Bool.{Bool, true, false, _&&_, _||_, not, false≢true}
-use mathlib.Core.List.{List, [], _∷_, zip}
+use mathlib.Core.Bool.{Bool, true, false, _&&_, _||_, not, false≢true, true≢false}
+use mathlib.Core.List.{List, [], _∷_, zipWith, zip}
 use native.Mathlib.Omega.{arith}
 use lib.Bits.{bitOr}
 use lib.Dec.{eqb, ltb}
@@ -10,7 +10,7 @@ use lib.ListN.{length, take, drop, getD, length-take, length-drop, drop-of-lengt
 use lib.Seq.{drop-drop}
 use borrow.Author.Tests.{not-true, not-false, ltb-true, ltb-false, lt-ltb, le-ltb}
 use Rattle.lists.specs.Choice.{oneIf}
-use Rattle.lists.specs.Lists.{any, total, numbersFrom}
+use Rattle.lists.specs.Lists.{any, upTo, total, numbersFrom}
 use Rattle.lists.proofs.Bools.{one-at-most, split, and-left, and-right}
 use Rattle.lists.proofs.Parts.{upTo-stop, upTo-on}
 use Rattle.lists.proofs.Scans.{upTo-fits, any-found}
@@ -20,6 +20,8 @@ use Rattle.protocol.specs.declared.Place.{Place}
 use Rattle.protocol.specs.declared.Position.{Position}
 use Rattle.protocol.specs.Octets.{is, upper, blank, lineEnd, lowerCase}
 use Rattle.protocol.specs.Lines.{lineNumber, placeAt, numberAfter, placeAfter}
+use Rattle.words.specs.Words.{among}
+use Rattle.text.proofs.Seeks.{end-low}
 use Rattle.lines.specs.Skips.{agentOctet, entryOctet, pairs, between, opens, quiet, closes, endings, agentFront, blocksAt, PassedOver, PassedFrom}
 use Rattle.lines.proofs.Pairs.{zip-next, pairs-length, pairs-part, any-parts, upTo-within, upTo-over, total-parts}
 
@@ -86,6 +88,22 @@ module _ (s : List ℕ) (i k : ℕ) (f : i + k < length s) (part : List (ℕ × 
   front-behind h =
       let fits : k ≤ length rest = omega (arith, length-drop i (pairs s), pairs-length s) in
       rw (← drop-drop k i (pairs s)) (upTo-over (opens agentOctet) k rest fits (sym holds ∙ le-ltb _ k h))
+
+-- no line ends in front of the first octet from LF to CR
+pub front-sought : (s : List ℕ) (i : ℕ) → i ≡ length (upTo (among 10 13 true) s) → i < length s → agentFront (pairs s) ≡ i + agentFront (drop i (pairs s))
+unfolding upTo zip zipWith
+front-sought [] i e h = absurd (omega arith)
+front-sought (x ∷ []) i e h =
+    split (among 10 13 true x) (λ a. let none : i ≡ 0 = rw a at e in rw none (omega arith))
+    (λ a. let one : i ≡ 1 = rw a at e in absurd (omega arith))
+front-sought (x ∷ y ∷ l) i e h =
+    split (among 10 13 true x) (λ a. let none : i ≡ 0 = rw a at e in rw none (omega arith))
+    (λ a.
+    let j = length (upTo (among 10 13 true) (y ∷ l)) in
+    let more : i ≡ suc j = rw a at e in
+    let inner : lineEnd x ≡ false = split (lineEnd x) (λ b. absurd (true≢false (sym (end-low 10 (omega arith) x b) ∙ a))) (λ b. b) in
+    let on = front-on {x = (x, y)} {rest = pairs (y ∷ l)} refl (rw inner) in
+    rw more (omega (arith, on, front-sought (y ∷ l) j refl (omega arith))))
 
 pub front-fits : (s : List ℕ) (i : ℕ) → agentFront (drop i (pairs s)) ≤ length s - 1 - i
 front-fits s i = omega (arith, upTo-fits (opens agentOctet) (drop i (pairs s)), length-drop i (pairs s), pairs-length s)

@@ -106,8 +106,8 @@ fn tail_agent(s: &[u8]) -> usize
     near_agent(s)
 }
 
-// As `next_agent`, block by block.
-fn far_agent(s: &[u8], from: Place) -> Place
+// As `next_agent`, block by block: for a place from which the next such line is mostly far.
+pub fn far_agent(s: &[u8], from: Place) -> Place
     requires { ⌜ from .offset < length (now s) ⌝ }
     ensures { λ r. ⌜ r ≡ nextAgent (now (s .entry)) from ⌝ }
 {
@@ -125,9 +125,26 @@ fn far_agent(s: &[u8], from: Place) -> Place
     Place { offset: found }
 }
 
-// Where the next line begins that may be an agent line; the text's end, if there is none. Before any block, the next five
-// octets are looked at one by one: where such lines are short, the next is near. In the block behind these the place is
-// looked for at once: mostly it is there.
+// Where the line behind the first one begins, if it may be an agent line; the end of the octets, if it isn't or doesn't begin in them.
+fn behind_line(s: &[u8]) -> usize
+    ensures { λ r. ⌜ (r ≤ length (now (s .entry))) × (r < length (now (s .entry)) → r ≡ agentFront (pairs (now (s .entry))) + 1) ⌝ }
+{
+    let end = text::seek(s, Place { offset: 0 }, b'\n', b'\r', true);
+    let i = end.offset;
+    if s.len() - i < 2 {
+        return s.len();
+    }
+    if ends_line(s[i]) {
+        if may_begin(s[i + 1]) {
+            return i + 1;
+        }
+    }
+    s.len()
+}
+
+// Where the next line begins that may be an agent line; the text's end, if there is none. Before any block, the next five octets are looked at one
+// by one, and then the line behind this one: where such lines are short, or many, the next is near. In the first block the place is looked for at
+// once: mostly it is there.
 pub fn next_agent(s: &[u8], from: Place) -> Place
     requires { ⌜ from .offset < length (now s) ⌝ }
     ensures { λ r. ⌜ r ≡ nextAgent (now (s .entry)) from ⌝ }
@@ -141,6 +158,12 @@ pub fn next_agent(s: &[u8], from: Place) -> Place
     let near = near_agent(&s[start..few]);
     if near < 6 {
         let found = start + near;
+        return Place { offset: found };
+    }
+    let line = start + 33;
+    let behind = behind_line(&s[start..line]);
+    if behind < 33 {
+        let found = start + behind;
         return Place { offset: found };
     }
     let on = start + 5;

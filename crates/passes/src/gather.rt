@@ -192,7 +192,7 @@ fn next_group(file: &[u8], at: Position, only: bool) -> Position
             place: Place { offset: file.len() },
         };
     }
-    jump(file, at, lines::skip::next_agent(file, at.place))
+    jump(file, at, lines::skip::far_agent(file, at.place))
 }
 
 // Every line is to be read: the group above applies, or the whole file is read.

@@ -32,12 +32,12 @@ only-one x y =
     (λ e.
     split (leb x y) (λ p. rw (p, lt-leb y x (omega (arith, leb-true x y p, eqb-false y x e))) (sym e)) (λ p. rw p (sym e)))
 
--- CR and LF are no greater than CR
-pub end-low : (x : ℕ) → lineEnd x ≡ true → among 0 13 true x ≡ true
+-- CR and LF are among the octets from LF, or a lower one, up to CR
+pub end-low : (low : ℕ) → low ≤ 10 → (x : ℕ) → lineEnd x ≡ true → among low 13 true x ≡ true
 unfolding lineEnd
-end-low x e =
-    split (is "\r" x) (λ r. rw (eqb-true x 13 r))
-    (λ r. let n : is "\n" x ≡ true = rw r at e in rw (eqb-true x 10 n))
+end-low low h x e =
+    split (is "\r" x) (λ r. rw (eqb-true x 13 r, le-leb low 13 (omega arith)))
+    (λ r. let n : is "\n" x ≡ true = rw r at e in rw (eqb-true x 10 n, le-leb low 10 h))
 
 module _ {A : Type 0} (f : A → Bool) where
   -- a search goes on behind what a search of the first n elements has passed

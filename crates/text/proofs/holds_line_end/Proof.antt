@@ -41,7 +41,7 @@ returns : tie.Need-returns
 returns c =
     let f = c .before .before in
     rw (c .scan .ensures)
-    (any-found lineEnd _ ∙ ap (any lineEnd) (rest-of (f .clear-front .result) (text f)) ∙ any-behind lineEnd (among 0 13 true) end-low _ (text f) (f .clear-front .ensures))
+    (any-found lineEnd _ ∙ ap (any lineEnd) (rest-of (f .clear-front .result) (text f)) ∙ any-behind lineEnd (among 0 13 true) (end-low 0 (omega arith)) _ (text f) (f .clear-front .ensures))
 
 pub holds-line-end-spec : {M : Type 1} → statement M
 holds-line-end-spec =

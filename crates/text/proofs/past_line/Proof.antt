@@ -72,7 +72,7 @@ module _ (c : tie.After-marks Inv-loop μ-loop) where
   none : c .marks .result ≡ 0 → ends loop ≡ 8
   none z =
       let absent = no-marks (among 0 13 true) 8 (c .marks .result) (octetsOf 8 (c .before .word-at .result)) (omega arith) (c .marks .ensures) .0 z in
-      let passed = wider-none lineEnd (among 0 13 true) end-low (eight loop) (rw (c .before .word-at .ensures) at absent) in
+      let passed = wider-none lineEnd (among 0 13 true) (end-low 0 (omega arith)) (eight loop) (rw (c .before .word-at .ensures) at absent) in
       passed ∙ length-take-le 8 (drop (here loop) (text loop)) (simp length-drop (omega arith))
 
 module _ (c : tie.After-first-mark Inv-loop μ-loop) where

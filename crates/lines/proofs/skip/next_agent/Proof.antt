@@ -3,11 +3,11 @@ use Prim.Native.Nat.{ℕ, _+_, _-_, _≤_, _<_}
 use mathlib.Core.Path.{_≡_, ap, _∙_}
 use mathlib.Core.List.{List, zip}
 use native.Mathlib.Omega.{arith}
-use lib.ListN.{take, drop, length-take, length-drop}
+use lib.ListN.{length, take, drop, length-take, length-drop}
 use Rattle.lists.proofs.Scans.{rest-of}
 use Rattle.protocol.specs.Lines.{placeAt}
 use Rattle.lines.specs.Skips.{pairs, agentFront}
-use Rattle.lines.proofs.Pairs.{pairs-part, pairs-rest, pairs-few}
+use Rattle.lines.proofs.Pairs.{part-length, pairs-part, pairs-rest, pairs-few}
 use Rattle.lines.proofs.Skips.{front-near, front-behind, front-fits}
 use Rattle.lines.proofs.skip.next_agent.Statement.{statement}
 use Rattle.lines.proofs.skip.next_agent.Tie as tie
@@ -92,6 +92,50 @@ add-found-2 c = omega arith
 returns-2 : tie.Need-returns-2
 returns-2 c = ap placeAt (omega (arith, near-found (c .before) (omega arith)))
 
+add-line : tie.Need-add-line
+add-line c = omega arith
+
+sub-behind-line : tie.Need-sub-behind-line
+sub-behind-line c = omega arith
+
+part-behind-line-start : tie.Need-part-behind-line-start
+part-behind-line-start c = omega arith
+
+part-behind-line-end : tie.Need-part-behind-line-end
+part-behind-line-end c = omega arith
+
+behind-line-requires : tie.Need-behind-line-requires
+behind-line-requires c κs = tt
+
+-- the line behind the first one is looked at
+module _ (c : tie.After-behind-line) where
+  abbrev looked : tie.After-near-agent
+  looked = c .before .before .before
+
+  abbrev first : tie.Start
+  first = near looked
+
+  abbrev lent : List ℕ
+  lent = take (start first + 33 - start first) (drop (start first) (text first))
+
+  abbrev many : start first + 33 - start first ≡ 32 + 1
+  many = omega arith
+
+  abbrev some : pairs lent ≡ take 32 (drop (start first) (pairs (text first)))
+  some = pairs-few (text first) (start first) 32 _ many
+
+  behind-found : c .behind-line .result < 33 → c .behind-line .result ≡ front first (start first) + 1
+  behind-found h =
+      let size : length lent ≡ 33 = part-length (text first) (start first) 33 _ many (omega arith) in
+      let e = c .behind-line .ensures .1 (omega (arith, h, size)) in
+      omega (arith, e, front-near (text first) (start first) 32 (omega arith) _ some (omega (arith, h, e)))
+
+add-found-3 : tie.Need-add-found-3
+add-found-3 c = omega arith
+
+returns-3 : tie.Need-returns-3
+returns-3 c = ap placeAt (omega (arith, behind-found (c .before) (omega arith)))
+
 add-on : tie.Need-add-on
 add-on c = omega arith
 
@@ -123,12 +167,16 @@ part-front-agent-end-2 : tie.Need-part-front-agent-end-2
 part-front-agent-end-2 c = omega arith
 
 front-agent-requires : tie.Need-front-agent-requires
-front-agent-requires c κs = (simp (length-take, length-drop) (omega arith), simp (length-take, length-drop) (omega arith))
+front-agent-requires c κs =
+    let s = first (c .before .before .before) in
+    let on = start s + 5 in
+    let sizes : (on + 64 - on ≡ 64) × (on + 65 - (on + 1) ≡ 64) = (omega arith, omega arith) in
+    (part-length (text s) on 64 _ (sizes .0) (omega arith), part-length (text s) (on + 1) 64 _ (sizes .1) (omega arith))
 
 -- the block behind five of them is looked at
 module _ (c : tie.After-front-agent) where
   abbrev six-seen : tie.After-near-agent
-  six-seen = c .before .before .before .before
+  six-seen = looked (c .before .before .before .before)
 
   abbrev begin : tie.Start
   begin = near six-seen
@@ -153,14 +201,14 @@ module _ (c : tie.After-front-agent) where
   front-none : 64 ≤ c .front-agent .result → front begin on ≡ 64 + front begin (on + 64)
   front-none h = front-behind (text begin) on 64 (omega arith) _ block (omega (arith, h, c .front-agent .ensures))
 
-add-found-3 : tie.Need-add-found-3
-add-found-3 c = omega arith
-
 add-found-4 : tie.Need-add-found-4
 add-found-4 c = omega arith
 
-returns-3 : tie.Need-returns-3
-returns-3 c = let f = c .before in ap placeAt (omega (arith, behind-five f, front-found f (omega arith)))
+add-found-5 : tie.Need-add-found-5
+add-found-5 c = omega arith
+
+returns-4 : tie.Need-returns-4
+returns-4 c = let f = c .before in ap placeAt (omega (arith, behind-five f, front-found f (omega arith)))
 
 add-far : tie.Need-add-far
 add-far c = omega arith
@@ -168,8 +216,8 @@ add-far c = omega arith
 far-agent-requires : tie.Need-far-agent-requires
 far-agent-requires c κs = omega arith
 
-returns-4 : tie.Need-returns-4
-returns-4 c =
+returns-5 : tie.Need-returns-5
+returns-5 c =
     let f = c .before .before in
     c .far-agent .ensures ∙ ap placeAt (omega (arith, behind-five f, front-none f (omega arith)))
 
@@ -191,6 +239,13 @@ next-agent-spec =
     near-agent-requires
     add-found-2
     returns-2
+    add-line
+    sub-behind-line
+    part-behind-line-start
+    part-behind-line-end
+    behind-line-requires
+    add-found-3
+    returns-3
     add-on
     add-front-agent
     sub-front-agent
@@ -202,9 +257,9 @@ next-agent-spec =
     part-front-agent-start-2
     part-front-agent-end-2
     front-agent-requires
-    add-found-3
     add-found-4
-    returns-3
+    add-found-5
+    returns-4
     add-far
     far-agent-requires
-    returns-4)
+    returns-5)
