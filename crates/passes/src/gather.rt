@@ -205,11 +205,20 @@ fn reads_on(applies: bool, whole: bool) -> bool
     whole
 }
 
-// The unread count, if the whole file was read: else 0.
-fn unread_told(unread: usize, whole: bool) -> usize
-    ensures { λ r. ⌜ r ≡ (if whole then unread else 0) ⌝ }
+// What is told: the unread count, if the whole file was read, and else 0.
+fn tell(c: Considered, unread: usize, whole: bool) -> Gathered
+    ensures { λ r. ⌜ r ≡ record { considered = c; unread = if whole then unread else 0 } ⌝ }
 {
-    if whole { unread } else { 0 }
+    if whole {
+        return Gathered {
+            considered: c,
+            unread,
+        };
+    }
+    Gathered {
+        considered: c,
+        unread: 0,
+    }
 }
 
 // After all lines of a file, for those whose groups apply. Only for the unread count is the whole file read.
@@ -249,8 +258,5 @@ pub fn gather(
         c = consider_rule(c, h.applies, file, here, side, pattern, path, scratch);
         h = hearing::hear_rule(h, is_unread_rule(side, pattern));
     }
-    Gathered {
-        considered: c,
-        unread: unread_told(h.unread, whole),
-    }
+    tell(c, h.unread, whole)
 }

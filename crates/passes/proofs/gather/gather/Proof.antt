@@ -223,8 +223,8 @@ loop-again-3 c =
     let done = c .before .before .before .before .consider-rule in
     reached-rule (file l) (who l) _ _ _ _ _ _ _ (at l) _ (known l) (inside l) (over n) (passed n) _ (kind-known k) (ruled .given .0 .0) (ruled .given .0 .1 .0) (ruled .given .1) (s .pre .3) _ (c .before .is-unread-rule .ensures) _ (c .hear-rule .ensures) _ (done .ensures .0) _ (done .ensures .1) _ (next-known n)
 
-unread-told-requires : tie.Need-unread-told-requires Inv-loop μ-loop
-unread-told-requires c κs = tt
+tell-requires : tie.Need-tell-requires Inv-loop μ-loop
+tell-requires c κs = tt
 
 same-length : tie.Need-same-length Inv-loop μ-loop
 same-length c = c .before .before .before .loop .inv .same
@@ -235,7 +235,7 @@ returns c =
     let t = e .before .before .loop in
     let a = e .before .before .before .before .before .before .before .before .before .before .before .args in
     let all = left-none (a .file .now) (whom (a .chosen .audience) (a .name .now)) (a .path .now) (a .whole) (t .h) (t .c) (t .at) _ (t .inv .left) (e .if1 .left) in
-    (ap (λ (n : ℕ). record { considered = t .c; unread = n }) (c .unread-told .ensures) ∙ all, t .inv .same)
+    (c .tell .ensures ∙ all, t .inv .same)
 
 pub gather-spec : {M : Type 1} → statement M
 gather-spec =
@@ -268,6 +268,6 @@ gather-spec =
     hear-rule-requires
     loop-less-3
     loop-again-3
-    unread-told-requires
+    tell-requires
     same-length
     returns)
