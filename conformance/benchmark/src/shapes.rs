@@ -62,20 +62,45 @@ const LINES: [(&str, u8); 3] = [
     ("one line of a", b'a'),
 ];
 
+/// Makes what stands behind it part of a group that applies.
+const AGENT: &[u8] = b"user-agent: *\n";
+
+/// Units that are neither agent lines nor rules, behind `AGENT`.
+const GROUPED: [(&str, &[u8]); 12] = [
+    ("u, in a group", b"u\n"),
+    ("a, in a group", b"a\n"),
+    ("space and u, in a group", b" u\n"),
+    ("LF and a space, in a group", b"\n "),
+    ("two spaces, in a group", b"  \n"),
+    ("three spaces and u, in a group", b"   u\n"),
+    ("user-agen, in a group", b"user-agen\n"),
+    ("disallowed:, in a group", b"disallowed: /\n"),
+    ("CR, in a group", b"\r"),
+    ("NUL, in a group", b"\0\n"),
+    ("# u, in a group", b"# u\n"),
+    ("other fields, in a group", b"crawl-delay: 1\n"),
+];
+
 pub fn named() -> Vec<Row> {
     let mut rows = Vec::from(UNITS.map(|(name, unit)| shape(name, repeated(unit, NAMED))));
+    rows.extend(GROUPED.map(|(name, unit)| shape(name, grouped(unit, NAMED))));
     rows.push(shape("groups: a name each", many_names()));
     rows.extend(LINES.map(|(name, octet)| shape(name, vec![octet; LONGEST])));
     rows
 }
 
-/// Each unit of one to three of the octets with each ending.
+/// Each unit of one to three of the octets with each ending; then the same,
+/// each in a group that applies.
 pub fn small() -> impl Iterator<Item = Row> {
-    units().flat_map(|unit| {
+    small_by(repeated).chain(small_by(grouped))
+}
+
+fn small_by(file: fn(&[u8], usize) -> Vec<u8>) -> impl Iterator<Item = Row> {
+    units().flat_map(move |unit| {
         ENDINGS.map(|ending| {
             let unit = [unit.as_slice(), ending].concat();
             let name = format!("\"{}\"", unit.escape_ascii());
-            shape(name, repeated(&unit, SMALL))
+            shape(name, file(&unit, SMALL))
         })
     })
 }
@@ -99,6 +124,11 @@ fn many_names() -> Vec<u8> {
         )
     };
     (0..1_000).map(group).collect::<String>().into_bytes()
+}
+
+fn grouped(unit: &[u8], octets: usize) -> Vec<u8> {
+    let lines = unit.iter().cycle();
+    AGENT.iter().chain(lines).take(octets).copied().collect()
 }
 
 fn repeated(unit: &[u8], octets: usize) -> Vec<u8> {

@@ -112,16 +112,24 @@ fn print_small_shapes(times: &[Times]) {
             (row.name, library, plain_c, times.ratios[0])
         })
         .collect();
+    let (alone, grouped) = shapes.split_at(shapes.len() / 2);
+    print_over("small shapes", alone);
+    print_over("small shapes in a group that applies", grouped);
+}
+
+fn print_over(title: &str, shapes: &[Shape]) {
     let over = |over: fn(&&Shape) -> bool| shapes.iter().filter(over).count();
     println!();
     println!(
-        "small shapes: {} files; over {MOST_AN_OCTET} ns an octet: {}; over {MOST_RATIO} of plain C: {}",
+        "{title}: {} files; over {MOST_AN_OCTET} ns an octet: {}; over {MOST_RATIO} of plain C: {}",
         shapes.len(),
         over(|shape| shape.1 > MOST_AN_OCTET),
         over(|shape| shape.3 > MOST_RATIO)
     );
-    print_dearest("dearest by ns an octet", shapes.clone(), |shape| shape.1);
-    print_dearest("dearest by ratio to plain C", shapes, |shape| shape.3);
+    print_dearest("dearest by ns an octet", shapes.to_vec(), |shape| shape.1);
+    print_dearest("dearest by ratio to plain C", shapes.to_vec(), |shape| {
+        shape.3
+    });
 }
 
 fn print_dearest(title: &str, mut shapes: Vec<Shape>, by: fn(&Shape) -> f64) {

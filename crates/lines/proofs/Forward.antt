@@ -1,12 +1,12 @@
 -- The lines of a file, from one to the next: where the line behind the one at a place begins. Assumes nothing.
 use Prim.Native.Nat.{ℕ, zero, suc, _+_, _≤_, _<_}
-use mathlib.Core.Path.{_≡_, sym, ap, _∙_}
+use mathlib.Core.Path.{_≡_, refl, sym, ap, _∙_}
 use mathlib.Core.Bool.{true, false≢true}
 use mathlib.Core.List.{List, [], _∷_}
 use native.Mathlib.Omega.{arith}
 use lib.ListN.{length, drop, getD, length-drop, drop-of-length-le}
 use lib.Seq.{drop-drop, getD-drop}
-use borrow.Author.Tests.{ltb-true, ltb-false, eqb-true}
+use borrow.Author.Tests.{ltb-true, ltb-false, eqb-true, ne-eqb}
 use lib.Dec.{ltb}
 use Rattle.lists.specs.Lists.{upTo, from}
 use Rattle.lists.proofs.Bools.{split}
@@ -16,15 +16,22 @@ use Rattle.protocol.specs.declared.Place.{Place}
 use Rattle.protocol.specs.Octets.{lineEnd}
 use Rattle.protocol.specs.Text.{begins}
 use Rattle.protocol.specs.Lines.{placeAt, placeAfter, lineText, endingLength, lineLength}
-use Rattle.protocol.proofs.FrontToBack.{length-on, line-fits, line-some}
+use Rattle.protocol.proofs.FrontToBack.{length-on, length-ending, line-fits, line-some}
 use Rattle.lines.specs.Spans.{textAt, nextAt}
 
--- an octet stands there
-pub begins-below : (file : List ℕ) (i : ℕ) → begins "\n" (drop i file) ≡ true → i < length file
-unfolding begins
-begins-below file i h =
-    split (ltb i (length file)) (ltb-true i (length file))
-    (λ e. absurd (false≢true (rw (drop-of-length-le file (ltb-false i (length file) e)) at h)))
+-- what is left of a line, told by its first octet: LF, CR or another
+module _ (s : List ℕ) (i : ℕ) (h : i < length s) where
+  pub left-lf : getD s i 0 ≡ 10 → lineLength (drop i s) ≡ 1
+  unfolding lineLength endingLength lineEnd upTo from
+  left-lf e = rw (drop-one s i 0 h, e)
+
+  pub left-cr : getD s i 0 ≡ 13 → lineLength (drop i s) ≡ endingLength (drop i s)
+  unfolding lineEnd
+  left-cr e = rw (drop-one s i 0 h, e) (length-ending 13 (drop (i + 1) s) refl)
+
+  pub left-inner : (getD s i 0 ≡ 10 → ⊥) → (getD s i 0 ≡ 13 → ⊥) → lineLength (drop i s) ≡ suc (lineLength (drop (i + 1) s))
+  unfolding lineEnd
+  left-inner n r = rw (drop-one s i 0 h) (length-on (getD s i 0) (drop (i + 1) s) (rw (ne-eqb (getD s i 0) 13 r, ne-eqb (getD s i 0) 10 n)))
 
 module _ (file : List ℕ) (p : Place) where
   -- behind the text of the line at p, at e, stands its ending
@@ -52,15 +59,6 @@ module _ (file : List ℕ) (p : Place) where
     pub next-end : length file ≤ e .offset → e ≡ nextAt file p
     unfolding endingLength
     next-end k = ap placeAt (omega (arith, ap endingLength (drop-of-length-le file k))) ∙ next-of
-
-  -- behind an LF at p
-  pub next-lf : begins "\n" (drop (p .offset) file) ≡ true → placeAfter p 1 ≡ nextAt file p
-  unfolding begins lineLength endingLength lineEnd upTo from
-  next-lf = go (drop (p .offset) file)
-    where
-      go : (l : List ℕ) → begins "\n" l ≡ true → placeAfter p 1 ≡ placeAfter p (lineLength l)
-      go [] h = absurd (false≢true h)
-      go (c ∷ l) h = rw (eqb-true c 10 h)
 
   -- The next line begins behind p,
   pub next-further : p .offset < length file → p .offset < nextAt file p .offset

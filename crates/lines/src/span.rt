@@ -6,7 +6,7 @@ ghost use Prim.Native.Nat.{_<_};
 ghost use lib.ListN.{length, drop, getD};
 ghost use Rattle.protocol.specs.Octets.{is, lineEnd};
 ghost use Rattle.protocol.specs.Text.{begins};
-ghost use Rattle.protocol.specs.Lines.{hasLeadingMark, skipped, placeAt, endingLength};
+ghost use Rattle.protocol.specs.Lines.{hasLeadingMark, skipped, placeAt, endingLength, lineLength};
 ghost use Rattle.protocol.specs.Classes.{classTable};
 ghost use Rattle.lines.specs.Spans.{nextAt};
 use protocol::ClassTable;
@@ -63,25 +63,40 @@ fn ending_length(s: &[u8]) -> usize
     1
 }
 
-// LF stands there.
-fn is_lf_at(file: &[u8], at: Place) -> bool
-    ensures { λ r. ⌜ r ≡ begins "\n" (drop (at .offset) (now (file .entry))) ⌝ }
+// The octets of the line that a text begins with, and of its ending, if that begins among the first four: else 0. They are looked at one by one,
+// so that the place behind the line is guessed and not waited for.
+fn near_end(s: &[u8]) -> usize
+    ensures { λ r. ⌜ (0 < r → r ≡ lineLength (now (s .entry))) ⌝ }
 {
-    let i = at.offset;
-    if file.len() <= i {
-        return false;
+    let mut i = 0;
+    while i < 4 {
+        if s.len() <= i {
+            return 0;
+        }
+        let x = s[i];
+        if x == b'\n' {
+            return i + 1;
+        }
+        if x == b'\r' {
+            return i + ending_length(&s[i..]);
+        }
+        i += 1;
     }
-    file[i] == b'\n'
+    0
 }
 
-// Where the line behind the one at `from` begins: the end of the file, if none does. Mostly what is examined of a line goes up to an LF.
+// Where the line behind the one at `from` begins: the end of the file, if none does. Mostly what is examined of a line goes up to its ending.
 pub fn next_place(classes: &ClassTable, file: &[u8], from: Place) -> Place
     requires { ⌜ now classes ≡ classTable ⌝ }
     ensures { λ r. ⌜ r ≡ nextAt (now (file .entry)) from ⌝ }
 {
-    if is_lf_at(file, from) {
-        let behind = from.offset + 1;
-        return Place { offset: behind };
+    let start = from.offset;
+    if start < file.len() {
+        let near = near_end(&file[start..]);
+        if near != 0 {
+            let behind = start + near;
+            return Place { offset: behind };
+        }
     }
     let end = text::line_end(classes, file, from);
     let stop = end.offset;

@@ -1,36 +1,47 @@
 -- `lines::span::next_place` meets its contract. Assumes nothing.
 use Prim.Native.Nat.{ℕ}
-use mathlib.Core.Path.{_≡_, sym, ap, _∙_}
-use mathlib.Core.Bool.{true}
+use mathlib.Core.Path.{_≡_, ap, _∙_}
 use mathlib.Core.List.{List}
 use native.Mathlib.Omega.{arith}
 use lib.ListN.{drop, length-drop}
 use borrow.Author.Needs.{needs}
 use Rattle.lists.proofs.Scans.{rest-of}
 use Rattle.protocol.specs.declared.Place.{Place}
-use Rattle.protocol.specs.Text.{begins}
-use Rattle.protocol.specs.Lines.{placeAfter, endingLength}
+use Rattle.protocol.specs.Lines.{placeAfter, endingLength, lineLength}
+use Rattle.protocol.proofs.FrontToBack.{line-fits}
 use Rattle.lines.specs.Spans.{nextAt}
-use Rattle.lines.proofs.Forward.{begins-below, next-lf, next-of, ends-there, next-end, next-inside}
+use Rattle.lines.proofs.Forward.{next-of, ends-there, next-end, next-inside}
 use Rattle.lines.proofs.span.next_place.Statement.{statement}
 use Rattle.lines.proofs.span.next_place.Tie as tie
 
-is-lf-at-requires : tie.Need-is-lf-at-requires
-is-lf-at-requires c κs = tt
+sub-near-end : tie.Need-sub-near-end
+sub-near-end c = omega arith
 
--- LF stands there
-module _ (c : tie.Then1) where
+part-near-end-start : tie.Need-part-near-end-start
+part-near-end-start c = omega arith
+
+part-near-end-end : tie.Need-part-near-end-end
+part-near-end-end c = omega arith
+
+near-end-requires : tie.Need-near-end-requires
+near-end-requires c κs = tt
+
+-- the line ends near
+module _ (c : tie.Then2) where
   abbrev given : tie.Start
-  given = c .before .before .before
+  given = c .before .before .before .before .before
 
-  told : begins "\n" (drop (given .args .from .offset) (given .args .file .now)) ≡ true
-  told = sym (c .before .is-lf-at .ensures) ∙ c .if1 .taken
+  abbrev rest : List ℕ
+  rest = drop (given .args .from .offset) (given .args .file .now)
+
+  known : c .before .near-end .result ≡ lineLength rest
+  known = c .before .near-end .ensures (omega (arith, c .if2 .taken)) ∙ ap lineLength (rest-of (given .args .from .offset) (given .args .file .now))
 
 add-behind : tie.Need-add-behind
-add-behind c = let t = c .before in omega (arith, begins-below (given t .args .file .now) (given t .args .from .offset) (told t))
+add-behind c = omega (arith, known c, line-fits (rest c), length-drop (given c .args .from .offset) (given c .args .file .now))
 
 returns : tie.Need-returns
-returns c = let t = c .before in next-lf (given t .args .file .now) (given t .args .from) (told t)
+returns c = ap (placeAfter (given c .args .from)) (known c)
 
 line-end-requires : tie.Need-line-end-requires
 line-end-requires c κs = search needs
@@ -38,10 +49,10 @@ line-end-requires c κs = search needs
 -- the place behind the text, and behind the ending there
 module _ (c : tie.After-line-end) where
   abbrev file : List ℕ
-  file = c .before .before .before .before .args .file .now
+  file = c .before .before .before .args .file .now
 
   abbrev from : Place
-  from = c .before .before .before .before .args .from
+  from = c .before .before .before .args .from
 
   abbrev end : Place
   end = c .line-end .result
@@ -85,7 +96,10 @@ pub next-place-spec : {M : Type 1} → statement M
 next-place-spec =
     tie.close
     (tie.spec
-    is-lf-at-requires
+    sub-near-end
+    part-near-end-start
+    part-near-end-end
+    near-end-requires
     add-behind
     returns
     line-end-requires
