@@ -30,6 +30,10 @@ pub agent-bits : (x : ℕ) → x < 256 → (eqb (bitOr x 32) 117 || eqb x 32 || 
 unfolding numbersFrom agentOctet blank lowerCase upper
 agent-bits = every-octet (λ x. eqb (bitOr x 32) 117 || eqb x 32 || eqb x 9) agentOctet refl
 
+pub entry-bits : (x : ℕ) → x < 256 → (eqb (bitOr x 32) 97 || eqb (bitOr x 32) 100 || agentOctet x) ≡ entryOctet x
+unfolding numbersFrom entryOctet agentOctet blank lowerCase upper
+entry-bits = every-octet (λ x. eqb (bitOr x 32) 97 || eqb (bitOr x 32) 100 || agentOctet x) entryOctet refl
+
 -- one turn of a loop over two texts
 module _ (l m : List ℕ) (i : ℕ) (h : i < length l) (k : i < length m) where
   pub opens-next : (first : ℕ → Bool)

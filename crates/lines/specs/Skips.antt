@@ -9,7 +9,6 @@ use Rattle.lists.specs.Lists.{any, upTo, total}
 use Rattle.protocol.specs.declared.Place.{Place}
 use Rattle.protocol.specs.declared.Position.{Position}
 use Rattle.protocol.specs.Octets.{is, blank, lineEnd, lowerCase}
-use Rattle.protocol.specs.Classes.{stop}
 use Rattle.protocol.specs.Lines.{numberAfter, placeAfter}
 use Rattle.lines.specs.declared.skip.Seen.{Seen}
 
@@ -17,9 +16,9 @@ use Rattle.lines.specs.declared.skip.Seen.{Seen}
 unfoldable pub agentOctet : ℕ → Bool
 agentOctet x = blank x || is "u" (lowerCase x)
 
--- an agent or rule line may begin with the octet: with "#", CR or LF a line is a comment, or blank
-abbrev pub entryOctet : ℕ → Bool
-entryOctet x = not (stop x)
+-- an agent or rule line may begin with the octet
+unfoldable pub entryOctet : ℕ → Bool
+entryOctet x = is "a" (lowerCase x) || is "d" (lowerCase x) || agentOctet x
 
 -- the octets of a text but the last, each with the one behind it
 abbrev pub pairs : List ℕ → List (ℕ × ℕ)

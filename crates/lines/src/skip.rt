@@ -5,8 +5,7 @@ ghost use mathlib.Core.List.{zip};
 ghost use Prim.Native.Nat.{_+_, _≤_, _<_};
 ghost use lib.ListN.{length};
 ghost use Rattle.protocol.specs.Octets.{is, lineEnd};
-ghost use Rattle.protocol.specs.Classes.{stop};
-ghost use Rattle.lines.specs.Skips.{agentOctet, pairs, quiet, closes, endings, between, agentFront, glanced, nextAgent, PassedFrom};
+ghost use Rattle.lines.specs.Skips.{agentOctet, entryOctet, pairs, quiet, closes, endings, between, agentFront, glanced, nextAgent, PassedFrom};
 use protocol::FIELDS;
 use protocol::LineNumber;
 use protocol::Place;
@@ -26,11 +25,11 @@ fn ends_line(x: u8) -> bool
     (x == b'\r') | (x == b'\n')
 }
 
-// A line that begins with the octet is a comment, or a blank line.
-fn begins_remark(x: u8) -> bool
-    ensures { λ r. ⌜ r ≡ stop x ⌝ }
+// An agent or rule line may begin with the octet, likewise.
+fn may_begin_entry(x: u8) -> bool
+    ensures { λ r. ⌜ r ≡ entryOctet x ⌝ }
 {
-    (x == b'#') | ends_line(x)
+    (x | 32 == FIELDS[1][0]) | (x | 32 == FIELDS[2][0]) | may_begin(x)
 }
 
 // The octet x, in front of y, is the last of its line and of its ending.
@@ -176,7 +175,7 @@ pub fn next_agent(s: &[u8], from: Place) -> Place
     far_agent(s, Place { offset: far })
 }
 
-// What 64 octets hold: whether only comments and blank lines begin behind them, and the line endings that they close.
+// What 64 octets hold: whether no agent or rule line begins behind them, and the line endings that they close.
 struct Seen {
     quiet: bool,
     lines: usize,
@@ -193,7 +192,7 @@ fn glance(b: &[u8], behind: &[u8]) -> Seen
     while i < 64 {
         let x = b[i];
         let y = behind[i];
-        let here = if ends_line(x) & !begins_remark(y) {
+        let here = if ends_line(x) & may_begin_entry(y) {
             1u8
         } else {
             0u8
@@ -209,7 +208,7 @@ fn glance(b: &[u8], behind: &[u8]) -> Seen
     }
 }
 
-// Passes over whole blocks of 64 octets, as long as only comments and blank lines begin behind these, and counts the lines that they close.
+// Passes over whole blocks of 64 octets, as long as no agent or rule line begins behind these, and counts the lines that they close.
 pub fn pass(s: &[u8], at: Position) -> Position
     requires { ⌜ (at .place .offset ≤ length (now s)) × (at .number .number ≤ at .place .offset + 1) ⌝ }
     ensures { λ r. ⌜ PassedFrom (now (s .entry)) at r ⌝ }

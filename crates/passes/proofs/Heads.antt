@@ -1,5 +1,5 @@
--- A line that is no agent line, told by its first octet or by its head, and one that is blank, told by its first octet; where what is examined
--- of a line ends. Assumes nothing.
+-- A line that is no agent line, told by its first octet or by its head, and one that has no known field, told by its first octet; where what is
+-- examined of a line ends. Assumes nothing.
 use Prim.Native.Nat.{ℕ, _+_, _≤_}
 use mathlib.Core.Path.{_≡_, refl, sym, ap, _∙_}
 use mathlib.Core.Bool.{Bool, true, false, false≢true}
@@ -9,15 +9,14 @@ use types.Run.{OneOf, miss}
 use denote.Enum.Declared.{tagOf}
 use native.Mathlib.Omega.{arith}
 use lib.ListN.{length, drop}
-use borrow.Author.Tests.{not-false}
 use Rattle.lists.specs.Choice.{if_then_else_}
 use Rattle.lists.specs.Lists.{from}
 use Rattle.lists.proofs.Bools.{split}
 use Rattle.lists.proofs.Parts.{from-stop}
 use Rattle.protocol.specs.declared.Kind.{Kind}
+use Rattle.protocol.specs.declared.Side.{Side}
 use Rattle.protocol.specs.Octets.{is, blank, lowerCase}
 use Rattle.protocol.specs.Text.{begins, solid}
-use Rattle.protocol.specs.Classes.{stop}
 use Rattle.protocol.specs.Lines.{lineText}
 use Rattle.protocol.specs.Kinds.{agentAt, kindOf}
 use Rattle.protocol.specs.Entries.{agent, roleOf}
@@ -28,9 +27,8 @@ use Rattle.kinds.specs.Entries.{examinedAs, entryTold}
 use Rattle.fields.specs.Near.{agentOf, agentOnly}
 use Rattle.fields.specs.Fields.{fieldOf, headOf, valueAt}
 use Rattle.fields.specs.Names.{nameLength, beginsName, fieldAt}
-use Rattle.fields.proofs.Heads.{isOther, head-field, head-inside, head-within, kind-head, no-agent, field-known}
+use Rattle.fields.proofs.Heads.{isOther, head-field, head-inside, head-within, kind-head, no-agent, no-allow, no-disallow, field-known}
 use Rattle.fields.proofs.Field as F
-use Rattle.kinds.proofs.Idle.{ended-blank}
 use Rattle.passes.specs.Entries.{roleNames}
 
 -- the field of an agent line
@@ -66,13 +64,15 @@ module _ (c : ℕ) (h : agentOctet c ≡ false) where
 
 -- a line's field, told by its first octet where that is neither space nor tab
 module _ (c : ℕ) (l : List ℕ) (b : blank c ≡ false) where
-  field-first : fieldOf (kindOf (lineText (c ∷ l)))
-      ≡ (if begins ":" (from solid (drop (nameLength (fieldAt (c ∷ l))) (c ∷ l))) then fieldAt (c ∷ l) else Field.Other)
+  abbrev colon : Bool
+  colon = begins ":" (from solid (drop (nameLength (fieldAt (c ∷ l))) (c ∷ l)))
+
+  field-first : fieldOf (kindOf (lineText (c ∷ l))) ≡ (if colon then fieldAt (c ∷ l) else Field.Other)
   field-first = let s : solid c ≡ true = rw b in rw (from-stop solid c l s) at (field-known (c ∷ l))
 
 -- A line that begins with no space, tab or "u" is no agent line;
 pub first-no-agent : (c : ℕ) (l : List ℕ) → agentOctet c ≡ false → isAgent (fieldOf (kindOf (lineText (c ∷ l)))) ≡ false
-first-no-agent c l h = rw (field-first c l (not-blank c h)) (kept (begins ":" (from solid (drop (nameLength (fieldAt (c ∷ l))) (c ∷ l)))))
+first-no-agent c l h = let b = not-blank c h in rw (field-first c l b) (kept (colon c l b))
   where
     other : isAgent (fieldAt (c ∷ l)) ≡ false
     other = not-agent-first (c ∷ l) (no-agent (c ∷ l) (λ e. absurd (false≢true (sym (not-u c h) ∙ rw e))))
@@ -81,10 +81,44 @@ first-no-agent c l h = rw (field-first c l (not-blank c h)) (kept (begins ":" (f
     kept true = other
     kept false = refl
 
--- and one that begins with "#", CR or LF is blank, and has no entry.
-pub first-idle : (c : ℕ) (l : List ℕ) → entryOctet c ≡ false → roleOf (kindOf (lineText (c ∷ l))) ≡ none
+-- what no agent or rule line begins with
+module _ (c : ℕ) (h : entryOctet c ≡ false) where
+  not-a : is "a" (lowerCase c) ≡ false
+  unfolding entryOctet
+  not-a = split (is "a" (lowerCase c)) (λ e. absurd (false≢true (sym h ∙ rw e))) (λ e. e)
+
+  not-d : is "d" (lowerCase c) ≡ false
+  unfolding entryOctet
+  not-d = split (is "d" (lowerCase c)) (λ e. absurd (false≢true (sym h ∙ rw (not-a, e)))) (λ e. e)
+
+  no-agent-octet : agentOctet c ≡ false
+  unfolding entryOctet
+  no-agent-octet = rw (not-a, not-d) at h
+
+  no-name : (l : List ℕ) → fieldAt (c ∷ l) ≡ Field.Other
+  unfolding fieldAt
+  no-name l =
+      let d = no-disallow (c ∷ l) (λ e. absurd (false≢true (sym not-d ∙ rw e))) in
+      let a = no-allow (c ∷ l) (λ e. absurd (false≢true (sym not-a ∙ rw e))) in
+      let u = no-agent (c ∷ l) (λ e. absurd (false≢true (sym (not-u c no-agent-octet) ∙ rw e))) in
+      rw (d, a, u)
+
+no-role : (k : Kind) → fieldOf k ≡ Field.Other → roleOf k ≡ none
 unfolding roleOf
-first-idle c l h = ap roleOf (sym (ended-blank (c ∷ l) (not-false (stop c) h)))
+no-role Kind.Blank h = refl
+no-role Kind.Noise h = refl
+no-role Kind.Other h = refl
+no-role (Kind.Agent a) h = absurd (false≢true (ap isOther h))
+no-role (Kind.Rule Side.Allow p) h = absurd (false≢true (ap isOther h))
+no-role (Kind.Rule Side.Disallow p) h = absurd (false≢true (ap isOther h))
+
+-- and one that begins with none of "a" and "d" either has no entry.
+pub first-idle : (c : ℕ) (l : List ℕ) → entryOctet c ≡ false → roleOf (kindOf (lineText (c ∷ l))) ≡ none
+first-idle c l h = let b = not-blank c (no-agent-octet c h) in no-role _ (field-first c l b ∙ other (colon c l b) (fieldAt (c ∷ l)) (no-name c h l))
+  where
+    other : (b : Bool) (f : Field) → f ≡ Field.Other → (if b then f else Field.Other) ≡ Field.Other
+    other true f e = e
+    other false f e = refl
 
 -- a head that is told only of an agent line
 agent-kept : (f : Field) (h : Head) → h .field ≡ f → agentOf f h .field ≡ Field.Agent → agentOf f h ≡ h

@@ -38,8 +38,8 @@ shared-slice-read-y c = omega arith
 ends-line-requires : tie.Need-ends-line-requires Inv-loop μ-loop
 ends-line-requires c κs = tt
 
-begins-remark-requires : tie.Need-begins-remark-requires Inv-loop μ-loop
-begins-remark-requires c κs = tt
+may-begin-entry-requires : tie.Need-may-begin-entry-requires Inv-loop μ-loop
+may-begin-entry-requires c κs = tt
 
 closes-line-requires : tie.Need-closes-line-requires Inv-loop μ-loop
 closes-line-requires c κs = tt
@@ -65,7 +65,7 @@ module _ (c : tie.At-loop Inv-loop μ-loop) where
 found-here : (c : tie.Joined1 Inv-loop μ-loop) → c .if1 .here ≡ oneIf (opens entryOctet (octets (c .before .before .before .before .before .before)))
 found-here c =
     let m = c .before in
-    let told = sym (ap₂ _&&_ (m .before .ends-line .ensures) (ap not (m .begins-remark .ensures))) in
+    let told = sym (ap₂ _&&_ (m .before .ends-line .ensures) (m .may-begin-entry .ensures)) in
     ⊎-elim (λ v. v .1 ∙ sym (ap oneIf (told ∙ v .0 .taken))) (λ v. v .1 ∙ sym (ap oneIf (told ∙ v .0 .left))) (c .if1 .came)
 
 module _ (c : tie.Joined2 Inv-loop μ-loop) where
@@ -112,8 +112,8 @@ loop-again c =
           ∙ inv .5,
     )
 
-cast-t21 : tie.Need-cast-t21 Inv-loop μ-loop
-cast-t21 c = omega (arith, c .before .loop .inv .1)
+cast-t20 : tie.Need-cast-t20 Inv-loop μ-loop
+cast-t20 c = omega (arith, c .before .loop .inv .1)
 
 none-found : (x : Bool) → eqb (oneIf x) 0 ≡ not x
 none-found true = refl
@@ -140,11 +140,11 @@ glance-spec =
     shared-slice-read-x
     shared-slice-read-y
     ends-line-requires
-    begins-remark-requires
+    may-begin-entry-requires
     closes-line-requires
     add-n
     add-i
     loop-less
     loop-again
-    cast-t21
+    cast-t20
     returns)
