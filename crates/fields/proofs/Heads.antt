@@ -100,17 +100,12 @@ module _ (t : List ℕ) where
   agent-told e = rw (agent-disallow e, agent-allow e, e)
 
   -- it doesn't begin with one of them, by its first octet
-  pub no-agent : (lowerCase (getD t 0 0) ≡ 117 → ⊥) → beginsName Field.Agent t ≡ false
+  pub no-name : (f : Field) → isOther f ≡ false → (lowerCase (getD t 0 0) ≡ getD (octets (nameOf f)) 0 0 → ⊥) → beginsName f t ≡ false
   unfolding octets lowerCase upper
-  no-agent = not-first 117 (octets "ser-agent") t
-
-  pub no-allow : (lowerCase (getD t 0 0) ≡ 97 → ⊥) → beginsName Field.Allow t ≡ false
-  unfolding octets lowerCase upper
-  no-allow = not-first 97 (octets "llow") t
-
-  pub no-disallow : (lowerCase (getD t 0 0) ≡ 100 → ⊥) → beginsName Field.Disallow t ≡ false
-  unfolding octets lowerCase upper
-  no-disallow = not-first 100 (octets "isallow") t
+  no-name Field.Agent o = not-first 117 (octets "ser-agent") t
+  no-name Field.Allow o = not-first 97 (octets "llow") t
+  no-name Field.Disallow o = not-first 100 (octets "isallow") t
+  no-name Field.Other o = absurd (true≢false o)
 
 name-fits : (w t : List ℕ) → sameIgnoringCase (take (length w) t) w ≡ true → length w ≤ length t
 name-fits w t h =

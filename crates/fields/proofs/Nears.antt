@@ -25,7 +25,7 @@ use Rattle.fields.specs.Fields.{headAt, valueStart, headOf}
 use Rattle.fields.specs.Names.{nameLength, beginsName, fieldAt}
 use Rattle.fields.specs.Near.{nearValue, toldBy, agentFirst, agentOf, agentOnly}
 use Rattle.fields.proofs.Field as F
-use Rattle.fields.proofs.Heads.{Known, field-begins, agent-told, no-agent, field-known, head-other, head-some}
+use Rattle.fields.proofs.Heads.{Known, field-begins, agent-told, no-name, field-known, head-other, head-some}
 use Rattle.fields.proofs.Sorts.{colon-solid, plain, plain-same}
 
 -- no space or tab stands in front
@@ -109,9 +109,9 @@ at-not-agent t p a =
     split (beginsName Field.Disallow t) (λ d. rw d) (λ d. split (beginsName Field.Allow t) (λ e. rw (d, e)) (λ e. rw (d, e, a)))
 
 not-named : (t : List ℕ) → agentFirst t ≡ false → beginsName Field.Agent t ≡ false
-unfolding lowerCase upper
-not-named [] e = no-agent [] (λ h. omega arith)
-not-named (x ∷ t) e = no-agent (x ∷ t) (eqb-false (lowerCase x) 117 e)
+unfolding octets lowerCase upper
+not-named [] e = no-name [] Field.Agent refl (λ h. omega arith)
+not-named (x ∷ t) e = no-name (x ∷ t) Field.Agent refl (eqb-false (lowerCase x) 117 e)
 
 module _ (r : List ℕ) where
   -- no field that is known

@@ -1,14 +1,12 @@
 -- Octets with the ones behind them, as a loop over two texts reads them, and tests of them, part by part. Assumes nothing.
 use Prim.Native.Nat.{ℕ, zero, suc, _+_, _-_, _≤_, _<_, min}
 use mathlib.Core.Path.{_≡_, refl, sym, ap, _∙_}
-use mathlib.Core.Bool.{Bool, true, false, _||_, or-assoc, false≢true, true≢false}
+use mathlib.Core.Bool.{Bool, _||_, or-assoc}
 use mathlib.Core.List.{List, [], _∷_, zipWith, zip}
 use native.Mathlib.Omega.{arith}
 use lib.ListN.{length, take, drop, getD, length-take, length-drop}
 use lib.Seq.{take-nil, drop-drop, getD-drop}
-use Rattle.lists.specs.Lists.{any, upTo, total}
-use Rattle.lists.proofs.Bools.{split}
-use Rattle.lists.proofs.Parts.{upTo-stop, upTo-on}
+use Rattle.lists.specs.Lists.{any, total}
 use Rattle.lists.proofs.Scans.{drop-one}
 use Rattle.lines.specs.Skips.{pairs}
 
@@ -98,24 +96,6 @@ module _ {A : Type 0} (f : A → Bool) where
   any-parts (suc n) m (x ∷ l) =
       let e : suc n + m ≡ suc (n + m) = omega arith in
       rw e (ap (λ (b : Bool). f x || b) (any-parts n m l) ∙ sym (or-assoc (f x) (any f (take n l)) (any f (take m (drop n l)))))
-
-  -- a search ends in a part that has what is sought,
-  pub upTo-within : (n : ℕ) (l : List A) → any f (take n l) ≡ true → length (upTo f (take n l)) ≡ length (upTo f l)
-  unfolding any
-  upTo-within zero l h = absurd (false≢true h)
-  upTo-within (suc n) [] h = absurd (false≢true h)
-  upTo-within (suc n) (x ∷ l) h =
-      split (f x) (λ e. rw (upTo-stop f x l e, upTo-stop f x (take n l) e))
-      (λ e. rw (upTo-on f x l e, upTo-on f x (take n l) e) (ap suc (upTo-within n l (rw e at h))))
-
-  -- and passes over one that hasn't
-  pub upTo-over : (n : ℕ) (l : List A) → n ≤ length l → any f (take n l) ≡ false → length (upTo f l) ≡ n + length (upTo f (drop n l))
-  unfolding any
-  upTo-over zero l k h = omega arith
-  upTo-over (suc n) [] k h = absurd (omega arith)
-  upTo-over (suc n) (x ∷ l) k h =
-      split (f x) (λ e. absurd (true≢false (rw e at h)))
-      (λ e. rw (upTo-on f x l e) (omega (arith, upTo-over n l (omega arith) (rw e at h))))
 
 -- a sum over two parts
 pub total-parts : {A : Type 0} (f : A → ℕ) (n m : ℕ) (l : List A) → total f (take (n + m) l) ≡ total f (take n l) + total f (take m (drop n l))

@@ -14,6 +14,7 @@ use Rattle.lists.specs.Lists.{any, upTo, total, numbersFrom}
 use Rattle.lists.proofs.Bools.{one-at-most, split, and-left, and-right}
 use Rattle.lists.proofs.Parts.{upTo-stop, upTo-on}
 use Rattle.lists.proofs.Scans.{upTo-fits, any-found}
+use Rattle.lists.proofs.Cuts.{upTo-within, upTo-over}
 use Rattle.octets.proofs.Every.{every-octet}
 use Rattle.protocol.specs.declared.LineNumber.{LineNumber}
 use Rattle.protocol.specs.declared.Place.{Place}
@@ -23,7 +24,7 @@ use Rattle.protocol.specs.Lines.{lineNumber, placeAt, numberAfter, placeAfter}
 use Rattle.words.specs.Words.{among}
 use Rattle.text.proofs.Seeks.{end-low}
 use Rattle.lines.specs.Skips.{agentOctet, entryOctet, pairs, between, opens, quiet, closes, endings, agentFront, blocksAt, PassedOver, PassedFrom}
-use Rattle.lines.proofs.Pairs.{zip-next, pairs-length, pairs-part, any-parts, upTo-within, upTo-over, total-parts}
+use Rattle.lines.proofs.Pairs.{zip-next, pairs-length, pairs-part, any-parts, total-parts}
 
 -- without a branch: a letter with the bit 32 set is the lower-case one
 pub agent-bits : (x : ℕ) → x < 256 → (eqb (bitOr x 32) 117 || eqb x 32 || eqb x 9) ≡ agentOctet x

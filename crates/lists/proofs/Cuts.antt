@@ -1,10 +1,10 @@
 -- Lists cut at the first element that passes one test, and then at the first that passes another. Assumes nothing.
-use Prim.Native.Nat.{ℕ, zero, suc, _≤_}
+use Prim.Native.Nat.{ℕ, zero, suc, _+_, _≤_}
 use mathlib.Core.Path.{_≡_, refl, sym, ap, _∙_}
 use mathlib.Core.Bool.{Bool, true, false, _||_, or-true, true≢false, false≢true}
 use mathlib.Core.List.{List, [], _∷_, tail}
 use native.Mathlib.Omega.{arith}
-use lib.ListN.{length, drop}
+use lib.ListN.{length, take, drop}
 use Rattle.lists.specs.Lists.{any, upTo, from}
 use Rattle.lists.proofs.Bools.{split}
 use Rattle.lists.proofs.Parts.{upTo-stop, upTo-on}
@@ -21,6 +21,24 @@ module _ {A : Type 0} (f : A → Bool) where
   unfolding from any
   from-none [] h = refl
   from-none (x ∷ l) h = split (f x) (λ e. absurd (true≢false (rw e at h))) (λ e. rw e (from-none l (rw e at h)))
+
+  -- a search ends in a part that has what is sought,
+  pub upTo-within : (n : ℕ) (l : List A) → any f (take n l) ≡ true → length (upTo f (take n l)) ≡ length (upTo f l)
+  unfolding any
+  upTo-within zero l h = absurd (false≢true h)
+  upTo-within (suc n) [] h = absurd (false≢true h)
+  upTo-within (suc n) (x ∷ l) h =
+      split (f x) (λ e. rw (upTo-stop f x l e, upTo-stop f x (take n l) e))
+      (λ e. rw (upTo-on f x l e, upTo-on f x (take n l) e) (ap suc (upTo-within n l (rw e at h))))
+
+  -- and passes over one that hasn't
+  pub upTo-over : (n : ℕ) (l : List A) → n ≤ length l → any f (take n l) ≡ false → length (upTo f l) ≡ n + length (upTo f (drop n l))
+  unfolding any
+  upTo-over zero l k h = omega arith
+  upTo-over (suc n) [] k h = absurd (omega arith)
+  upTo-over (suc n) (x ∷ l) k h =
+      split (f x) (λ e. absurd (true≢false (rw e at h)))
+      (λ e. rw (upTo-on f x l e) (omega (arith, upTo-over n l (omega arith) (rw e at h))))
 
 module _ {A : Type 0} (f g : A → Bool) where
   -- the part before either test passes

@@ -41,7 +41,10 @@ pub fn literal_front(s: &[u8]) -> usize
 pub fn may_change(path: &[u8]) -> bool
     ensures { λ r. ⌜ r ≡ any (isEncoded false) (now (path .entry)) ⌝ }
 {
-    let mut i = text::clear_front(path, 0x2B, 0x7E, false);
+    let mut i = 0;
+    if 8 <= path.len() {
+        i = text::clear_front(path, 0x2B, 0x7E, false);
+    }
     while i < path.len() {
         if !escapes::is_kept(false, path[i]) {
             return true;

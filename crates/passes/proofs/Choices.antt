@@ -1,17 +1,19 @@
 -- The first pass: whose groups apply, by the agent lines, and which of them is the first. Assumes nothing.
 use Prim.Native.Nat.{ℕ, _+_, _≤_, _<_}
 use mathlib.Core.Path.{_≡_, refl, sym, ap, subst, _∙_}
-use mathlib.Core.Bool.{Bool, true, false, _||_, false≢true, true≢false}
+use mathlib.Core.Bool.{Bool, true, false, not, _||_, or-true, false≢true, true≢false}
 use mathlib.Core.List.{List, [], _∷_}
 use mathlib.Core.Option.{Option, none, some}
 use native.Mathlib.Omega.{arith}
 use types.Run.{OneOf, miss}
 use denote.Enum.Declared.{tagOf}
+use lib.Dec.{ltb}
 use lib.ListN.{length}
+use borrow.Author.Tests.{ltb-true, ltb-false}
 use Rattle.lists.specs.Lists.{any, from}
 use Rattle.lists.proofs.Bools.{split}
 use Rattle.lists.proofs.Cuts.{from-none}
-use Rattle.lists.proofs.Parts.{from-on}
+use Rattle.lists.proofs.Parts.{from-stop, from-on}
 use Rattle.protocol.specs.declared.LineNumber.{LineNumber}
 use Rattle.protocol.specs.declared.Place.{Place}
 use Rattle.protocol.specs.declared.Position.{Position}
@@ -34,7 +36,7 @@ use Rattle.hearing.proofs.Naming.{names-nobody}
 use Rattle.passes.specs.declared.audience.Chosen.{Chosen}
 use Rattle.passes.specs.Entries.{lineValue, roleNames, lineNames, lineAudience}
 use Rattle.passes.specs.Steps.{firstLine, linesOn, linesPast}
-use Rattle.passes.specs.Choosing.{lineAt, afterLine, ChosenOf}
+use Rattle.passes.specs.Choosing.{lineAt, afterLine, knownAlone, ChosenOf}
 use Rattle.passes.proofs.Groups.{some-line-names}
 use Rattle.passes.proofs.Heads.{isAgent, no-agent-named, first-no-agent}
 use Rattle.passes.proofs.Turns.{first-at, names-here}
@@ -100,6 +102,11 @@ first-on before y true b = refl
 first-on before true false true = refl
 first-on before true false false = refl
 first-on before false false b = refl
+
+first-everyone : (x y : Bool) → Audience.Everyone ≡ firstOf x y → y ≡ true
+first-everyone true y e = absurd (true≢false (ap isCrawler (sym e)))
+first-everyone false true e = refl
+first-everyone false false e = absurd (true≢false (ap isEveryone e))
 
 first-nobody : (x y : Bool) → Audience.Nobody ≡ firstOf x y → y ≡ false
 first-nobody true y e = absurd (true≢false (ap isCrawler (sym e)))
@@ -174,13 +181,17 @@ nobody-named file (l ∷ ls) = rw (unnamed-nobody file l) (nobody-named file ls)
 abbrev Unmet : List ℕ → List ℕ → Place → Type 0
 Unmet file who p = from (lineNames file who) (linesOf file) ≡ from (lineNames file who) (linesOn file (lineAt file p))
 
--- what is known of "*" at p: it isn't named yet; or its first line is known, and whether none between that and p names it
+-- the line at p is the first that names who; at the file's end, none does
+abbrev FirstNamed : List ℕ → List ℕ → Place → Type 0
+FirstNamed file who p = from (lineNames file who) (linesOf file) ≡ linesOn file (lineAt file p)
+
+-- what is known of "*" at p: it isn't named yet; or its first line is known, and whether a line between that and p names it too
 abbrev Stars : List ℕ → Audience → Place → Bool → Place → Type 0
 Stars file Audience.Crawler first only p = ⊥
 Stars file Audience.Everyone first only p =
-    (skipped file ≤ first .offset) × Unmet file everyone first
-    × (only ≡ true → any (lineNames file everyone) (linesPast file (lineAt file first)) ≡ any (lineNames file everyone) (linesOn file (lineAt file p)))
-Stars file Audience.Nobody first only p = (skipped file ≤ first .offset) × Unmet file everyone p
+    (skipped file ≤ first .offset) × (first .offset ≤ length file) × FirstNamed file everyone first
+    × (any (lineNames file everyone) (linesPast file (lineAt file first)) ≡ not only || any (lineNames file everyone) (linesOn file (lineAt file p)))
+Stars file Audience.Nobody first only p = (first ≡ placeAt (length file)) × (only ≡ true) × Unmet file everyone p
 
 -- what holds where the pass has come to the line at p
 pub record Looked (file crawler : List ℕ) (c : Chosen) (p : Place) : Type 0 where
@@ -206,26 +217,27 @@ looked-first file crawler p e =
       further = omega arith;
       left = ap (audienceLeft file crawler Audience.Nobody) (first-at file) ∙ audience-all file crawler;
       unmet = start crawler;
-      stars = (mark-inside file, start everyone);
+      stars = (refl, refl, start everyone);
     })
   where
     start : (who : List ℕ) → Unmet file who (firstLine file .place)
     start who = ap (from (lineNames file who)) (lines-all file ∙ ap (linesOn file) (sym (first-at file)))
 
 -- what is chosen, by what is known of it
-chosen-as : (file crawler : List ℕ) (c : Chosen) (a x : Audience) → c .audience ≡ x → x ≡ a → skipped file ≤ c .first .offset → Unmet file (whom x crawler) (c .first)
-    → (c .only ≡ true → any (lineNames file (whom x crawler)) (linesPast file (lineAt file (c .first))) ≡ false) → ChosenOf file crawler a c
-chosen-as file crawler c a x e t f u o = rw (← t) (record { audience = e; further = f; first = u; only = o })
-
-none-from : (file : List ℕ) (ls : List Line) → from (lineNames file []) ls ≡ []
-none-from file ls = from-none (lineNames file []) ls (nobody-named file ls)
+chosen-as : (file crawler : List ℕ) (c : Chosen) (a x : Audience) → c .audience ≡ x → x ≡ a → skipped file ≤ c .first .offset → c .first .offset ≤ length file
+    → FirstNamed file (whom x crawler) (c .first)
+    → c .only ≡ knownAlone x (any (lineNames file (whom x crawler)) (linesPast file (lineAt file (c .first)))) → ChosenOf file crawler a c
+chosen-as file crawler c a x e t f i n o = rw (← t) (record { audience = e; further = f; inside = i; first = n; only = o })
 
 -- nobody
-pub chosen-nobody : (file crawler : List ℕ) (c : Chosen) (a : Audience) → c .audience ≡ Audience.Nobody → Audience.Nobody ≡ a → skipped file ≤ c .first .offset
-    → ChosenOf file crawler a c
-chosen-nobody file crawler c a e t f =
-    chosen-as file crawler c a Audience.Nobody e t f (none-from file (linesOf file) ∙ sym (none-from file (linesOn file (lineAt file (c .first)))))
-    (λ z. nobody-named file (linesPast file (lineAt file (c .first))))
+pub chosen-nobody : (file crawler : List ℕ) (c : Chosen) (a : Audience) → c .audience ≡ Audience.Nobody → Audience.Nobody ≡ a → c .first ≡ placeAt (length file)
+    → c .only ≡ true → ChosenOf file crawler a c
+chosen-nobody file crawler c a e t p o =
+    let at : c .first .offset ≡ length file = ap (λ (x : Place). x .offset) p in
+    let none : from (lineNames file []) (linesOf file) ≡ [] = from-none (lineNames file []) (linesOf file) (nobody-named file (linesOf file)) in
+    chosen-as file crawler c a Audience.Nobody e t (omega (arith, at, mark-inside file)) (omega (arith, at))
+    (none ∙ sym (lines-end file (lineAt file (c .first) .number) (c .first) (omega (arith, at))))
+    (o ∙ ap not (sym (nobody-named file (linesPast file (lineAt file (c .first))))))
 
 -- the one that is chosen is the chosen one's own
 pub chosen-own : (file crawler : List ℕ) (c : Chosen) (a : Audience) → ChosenOf file crawler a c → ChosenOf file crawler (c .audience) c
@@ -239,13 +251,19 @@ module _ (file crawler : List ℕ) (p : Place) (f : skipped file ≤ p .offset) 
   abbrev next : Place
   next = nextAgent file p
 
+  -- the first that names who
+  first-here : (who : List ℕ) → names who ≡ true → Unmet file who p → FirstNamed file who p
+  first-here who n u =
+      let lines = lines-next file (lineAt file p .number) p h in
+      u ∙ ap (from (lineNames file who)) lines ∙ from-stop (lineNames file who) _ (linesPast file (lineAt file p)) n ∙ sym lines
+
   -- names the crawler,
   pub looked-crawler : (c : Chosen) → Looked file crawler c p → (here : Audience) → here ≡ lineAudience file crawler p → here ≡ Audience.Crawler
       → ChosenOf file crawler (audience file (entries file) crawler) (record { audience = here; first = p; only = false })
   looked-crawler c now here e t =
       let named : names crawler ≡ true = first-crawler (names crawler) (names everyone) (sym e ∙ t) in
       let found : Audience.Crawler ≡ audienceLeft file crawler (c .audience) (lineAt file p) = rw (names-here file (lineAt file p) h crawler, named) in
-      chosen-as file crawler _ _ Audience.Crawler t (found ∙ now .left) f (now .unmet) (λ z. absurd (false≢true z))
+      chosen-as file crawler _ _ Audience.Crawler t (found ∙ now .left) f (omega (arith, h)) (first-here crawler named (now .unmet)) refl
 
   -- or doesn't
   any-next : (who : List ℕ) → any (lineNames file who) (linesPast file (lineAt file p)) ≡ any (lineNames file who) (linesOn file (lineAt file next))
@@ -275,17 +293,21 @@ module _ (file crawler : List ℕ) (p : Place) (f : skipped file ≤ p .offset) 
 
     stars-on : (a : Audience) (first : Place) (only : Bool) → Stars file a first only p
         → let d = afterLine a here p (record { audience = a; first = first; only = only }) in Stars file (d .audience) (d .first) (d .only) next
-    stars-on a first only s = go here o (λ t. first-nobody (names crawler) (names everyone) (sym t ∙ e)) a s
+    stars-on a first only s =
+        go here o (λ t. first-everyone (names crawler) (names everyone) (sym t ∙ e)) (λ t. first-nobody (names crawler) (names everyone) (sym t ∙ e)) a s
       where
-        go : (x : Audience) → OneOf (1 ∷ 2 ∷ []) (tagOf A.the-type x) → (x ≡ Audience.Nobody → names everyone ≡ false) → (a : Audience) → Stars file a first only p
+        go : (x : Audience) → OneOf (1 ∷ 2 ∷ []) (tagOf A.the-type x) → (x ≡ Audience.Everyone → names everyone ≡ true)
+            → (x ≡ Audience.Nobody → names everyone ≡ false) → (a : Audience) → Stars file a first only p
             → let d = afterLine a x p (record { audience = a; first = first; only = only }) in Stars file (d .audience) (d .first) (d .only) next
-        go Audience.Crawler z n a s = absurd (miss (1 ∷ 2 ∷ []) 0 tt z)
-        go Audience.Everyone z n Audience.Crawler s = absurd s
-        go Audience.Everyone z n Audience.Everyone s = (s .0, s .1, λ t. absurd (false≢true t))
-        go Audience.Everyone z n Audience.Nobody s = (f, s .1, λ t. any-next everyone)
-        go Audience.Nobody z n Audience.Crawler s = absurd s
-        go Audience.Nobody z n Audience.Everyone s = (s .0, s .1, λ t. s .2 t ∙ any-on everyone (n refl))
-        go Audience.Nobody z n Audience.Nobody s = (s .0, unmet-on everyone (n refl) (s .1))
+        go Audience.Crawler z y n a s = absurd (miss (1 ∷ 2 ∷ []) 0 tt z)
+        go Audience.Everyone z y n Audience.Crawler s = absurd s
+        go Audience.Everyone z y n Audience.Everyone s =
+            let named : any (lineNames file everyone) (linesOn file (lineAt file p)) ≡ true = names-here file (lineAt file p) h everyone ∙ rw (y refl) in
+            (s .0, s .1, s .2, s .3 ∙ rw (named, or-true (not only)))
+        go Audience.Everyone z y n Audience.Nobody s = (f, omega (arith, h), first-here everyone (y refl) (s .2), any-next everyone)
+        go Audience.Nobody z y n Audience.Crawler s = absurd s
+        go Audience.Nobody z y n Audience.Everyone s = (s .0, s .1, s .2, s .3 ∙ ap (λ (b : Bool). not only || b) (any-on everyone (n refl)))
+        go Audience.Nobody z y n Audience.Nobody s = (s .0, s .1, unmet-on everyone (n refl) (s .2))
 
     pub looked-on : (c : Chosen) → Looked file crawler c p → (d : Chosen) → d ≡ afterLine (c .audience) here p c → (q : Place) → q ≡ next → Looked file crawler d q
     looked-on c now d t q u =
@@ -309,11 +331,43 @@ looked-end file crawler c p now h = go (c .audience) refl (now .stars)
     chosen : c .audience ≡ audience file (entries file) crawler
     chosen = rw ends at (now .left)
 
+    told : (only others : Bool) → others ≡ not only || false → only ≡ not others
+    told true others h = ap not (sym h)
+    told false others h = ap not (sym h)
+
     goal : Audience
     goal = audience file (entries file) crawler
 
     go : (x : Audience) → c .audience ≡ x → Stars file x (c .first) (c .only) p → ChosenOf file crawler goal c
     go Audience.Crawler e s = absurd s
     go Audience.Everyone e s =
-        chosen-as file crawler c goal Audience.Everyone e (sym e ∙ chosen) (s .0) (s .1) (λ t. s .2 t ∙ ap (any (lineNames file everyone)) ends)
-    go Audience.Nobody e s = chosen-nobody file crawler c goal e (sym e ∙ chosen) (s .0)
+        chosen-as file crawler c goal Audience.Everyone e (sym e ∙ chosen) (s .0) (s .1) (s .2) (told (c .only) _ (s .3 ∙ rw ends))
+    go Audience.Nobody e s = chosen-nobody file crawler c goal e (sym e ∙ chosen) (s .0) (s .1)
+
+-- the place of the first of some lines, or else p
+abbrev placeOr : Place → List Line → Place
+placeOr p [] = p
+placeOr p (l ∷ ls) = l .place
+
+place-told : (file : List ℕ) (p : Place) → p .offset ≤ length file → placeOr (placeAt (length file)) (linesOn file (lineAt file p)) ≡ p
+place-told file p h =
+    split (ltb (p .offset) (length file))
+    (λ e. ap (placeOr (placeAt (length file))) (lines-next file (lineAt file p .number) p (ltb-true (p .offset) (length file) e)))
+    (λ e.
+    let ends = ltb-false (p .offset) (length file) e in
+    let same : length file ≡ p .offset = omega (arith, ends, h) in
+    ap (placeOr (placeAt (length file))) (lines-end file (lineAt file p .number) p ends) ∙ ap placeAt same)
+
+same-choice : (c d : Chosen) → c .audience ≡ d .audience → c .first ≡ d .first → c .only ≡ d .only → c ≡ d
+same-choice c d e p o = rw (e, p, o)
+
+-- One choice is right.
+pub chosen-one : (file crawler : List ℕ) (a : Audience) (c d : Chosen) → ChosenOf file crawler a c → ChosenOf file crawler a d → c ≡ d
+chosen-one file crawler a c d of od =
+    let who = whom a crawler in
+    let first : c .first ≡ d .first
+    = sym (place-told file (c .first) (of .inside))
+    ∙ ap (placeOr (placeAt (length file))) (sym (of .first) ∙ od .first)
+    ∙ place-told file (d .first) (od .inside) in
+    same-choice c d (of .audience ∙ sym (od .audience)) first
+    (of .only ∙ ap (λ (p : Place). knownAlone a (any (lineNames file who) (linesPast file (lineAt file p)))) first ∙ sym (od .only))

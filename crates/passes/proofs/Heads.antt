@@ -16,7 +16,7 @@ use Rattle.lists.proofs.Parts.{from-stop}
 use Rattle.protocol.specs.declared.Kind.{Kind}
 use Rattle.protocol.specs.declared.Side.{Side}
 use Rattle.protocol.specs.Octets.{is, blank, lowerCase}
-use Rattle.protocol.specs.Text.{begins, solid}
+use Rattle.protocol.specs.Text.{octets, begins, solid}
 use Rattle.protocol.specs.Lines.{lineText}
 use Rattle.protocol.specs.Kinds.{agentAt, kindOf}
 use Rattle.protocol.specs.Entries.{agent, roleOf}
@@ -27,7 +27,7 @@ use Rattle.kinds.specs.Entries.{examinedAs, entryTold}
 use Rattle.fields.specs.Near.{agentOf, agentOnly}
 use Rattle.fields.specs.Fields.{fieldOf, headOf, valueAt}
 use Rattle.fields.specs.Names.{nameLength, beginsName, fieldAt}
-use Rattle.fields.proofs.Heads.{isOther, head-field, head-inside, head-within, kind-head, no-agent, no-allow, no-disallow, field-known}
+use Rattle.fields.proofs.Heads.{isOther, head-field, head-inside, head-within, kind-head, no-name, field-known}
 use Rattle.fields.proofs.Field as F
 use Rattle.passes.specs.Entries.{roleNames}
 
@@ -72,10 +72,11 @@ module _ (c : ℕ) (l : List ℕ) (b : blank c ≡ false) where
 
 -- A line that begins with no space, tab or "u" is no agent line;
 pub first-no-agent : (c : ℕ) (l : List ℕ) → agentOctet c ≡ false → isAgent (fieldOf (kindOf (lineText (c ∷ l)))) ≡ false
+unfolding octets
 first-no-agent c l h = let b = not-blank c h in rw (field-first c l b) (kept (colon c l b))
   where
     other : isAgent (fieldAt (c ∷ l)) ≡ false
-    other = not-agent-first (c ∷ l) (no-agent (c ∷ l) (λ e. absurd (false≢true (sym (not-u c h) ∙ rw e))))
+    other = not-agent-first (c ∷ l) (no-name (c ∷ l) Field.Agent refl (λ e. absurd (false≢true (sym (not-u c h) ∙ rw e))))
 
     kept : (b : Bool) → isAgent (if b then fieldAt (c ∷ l) else Field.Other) ≡ false
     kept true = other
@@ -95,12 +96,12 @@ module _ (c : ℕ) (h : entryOctet c ≡ false) where
   unfolding entryOctet
   no-agent-octet = rw (not-a, not-d) at h
 
-  no-name : (l : List ℕ) → fieldAt (c ∷ l) ≡ Field.Other
-  unfolding fieldAt
-  no-name l =
-      let d = no-disallow (c ∷ l) (λ e. absurd (false≢true (sym not-d ∙ rw e))) in
-      let a = no-allow (c ∷ l) (λ e. absurd (false≢true (sym not-a ∙ rw e))) in
-      let u = no-agent (c ∷ l) (λ e. absurd (false≢true (sym (not-u c no-agent-octet) ∙ rw e))) in
+  no-field : (l : List ℕ) → fieldAt (c ∷ l) ≡ Field.Other
+  unfolding fieldAt octets
+  no-field l =
+      let d = no-name (c ∷ l) Field.Disallow refl (λ e. absurd (false≢true (sym not-d ∙ rw e))) in
+      let a = no-name (c ∷ l) Field.Allow refl (λ e. absurd (false≢true (sym not-a ∙ rw e))) in
+      let u = no-name (c ∷ l) Field.Agent refl (λ e. absurd (false≢true (sym (not-u c no-agent-octet) ∙ rw e))) in
       rw (d, a, u)
 
 no-role : (k : Kind) → fieldOf k ≡ Field.Other → roleOf k ≡ none
@@ -114,7 +115,7 @@ no-role (Kind.Rule Side.Disallow p) h = absurd (false≢true (ap isOther h))
 
 -- and one that begins with none of "a" and "d" either has no entry.
 pub first-idle : (c : ℕ) (l : List ℕ) → entryOctet c ≡ false → roleOf (kindOf (lineText (c ∷ l))) ≡ none
-first-idle c l h = let b = not-blank c (no-agent-octet c h) in no-role _ (field-first c l b ∙ other (colon c l b) (fieldAt (c ∷ l)) (no-name c h l))
+first-idle c l h = let b = not-blank c (no-agent-octet c h) in no-role _ (field-first c l b ∙ other (colon c l b) (fieldAt (c ∷ l)) (no-field c h l))
   where
     other : (b : Bool) (f : Field) → f ≡ Field.Other → (if b then f else Field.Other) ≡ Field.Other
     other true f e = e

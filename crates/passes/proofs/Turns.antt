@@ -9,7 +9,7 @@ use types.Run.{OneOf, miss}
 use denote.Enum.Declared.{tagOf}
 use lib.Dec.{ltb}
 use lib.ListN.{length, drop}
-use borrow.Author.Tests.{ltb-true, ltb-false}
+use borrow.Author.Tests.{ltb-true, ltb-false, not-true}
 use Rattle.lists.specs.Choice.{if_then_else_}
 use Rattle.lists.specs.Lists.{any, from}
 use Rattle.lists.proofs.Bools.{split, one-at-most}
@@ -45,7 +45,7 @@ use Rattle.passes.specs.declared.gather.Gathered.{Gathered}
 use Rattle.passes.specs.Entries.{heardAs, ruleHeard, rulesHeard, gatheredFrom, gathered, lineValue, valueEnd, roleNames, lineNames, lineAudience, heardOther, entryAt, told}
 use Rattle.passes.specs.Steps.{firstLine, linesOn, linesPast, PassedLine, Jumped, firstRead, nextRead}
 use Rattle.passes.specs.declared.audience.Chosen.{Chosen}
-use Rattle.passes.specs.Choosing.{lineAt, ChosenOf}
+use Rattle.passes.specs.Choosing.{lineAt, knownAlone, ChosenOf}
 use Rattle.passes.proofs.Gathering.{gathered-heard, gathered-all}
 use Rattle.passes.proofs.Groups.{some-line-names}
 use Rattle.passes.proofs.Unheard.{unheard, unheard-any, unheard-line, unheard-from, unheard-none}
@@ -343,6 +343,12 @@ behind-alone file who q unnamed h =
     let k = kindOf (textAt file (q .place)) in
     or-right (roleNames who (lineValue file (q .place) k) (roleOf k)) (any (lineNames file who) (linesPast file q)) (sym (names-here file q h who) ∙ unnamed)
 
+-- what is told of a line that is the only one
+alone-told : (a : Audience) (others : Bool) → knownAlone a others ≡ true → others ≡ false
+alone-told Audience.Crawler others e = absurd (false≢true e)
+alone-told Audience.Everyone others e = not-true others e
+alone-told Audience.Nobody others e = not-true others e
+
 -- at the first line that is read all is left, and no line behind it names who where that is known
 module _ (file crawler path : List ℕ) (ch : Chosen) (of : ChosenOf file crawler (ch .audience) ch) where
   abbrev who : List ℕ
@@ -361,7 +367,6 @@ module _ (file crawler path : List ℕ) (ch : Chosen) (of : ChosenOf file crawle
       = ap (unheard file who) (sym (lines-all file)) ∙ unheard-from file who (linesOf file) in
       let there : unheard file who (from (lineNames file who) (linesOf file)) ≡ unheard file who (linesOn file p)
       = ap (unheard file who) (of .first)
-      ∙ sym (unheard-from file who (linesOn file (lineAt file (ch .first))))
       ∙ jumped-on (unheard file who) file (firstLine file) (ch .first) p j in
       (0, false, left-passed file who path false nothingHeard noneConsidered all refl refl (linesOn file (firstLine file)) (linesOn file p) (start ∙ there) 0 false (ap (told false) (left-all file crawler (ch .audience) path)))
 
@@ -371,7 +376,7 @@ module _ (file crawler path : List ℕ) (ch : Chosen) (of : ChosenOf file crawle
   alone-first false p j w o h =
       let there : p .place .offset ≡ ch .first .offset = ap (λ (x : Place). x .offset) (j .place) in
       let same : p ≡ lineAt file (ch .first) = ap₂ (λ (n : LineNumber) (x : Place). record { number = n; place = x }) (j .number (omega (arith, h, there))) (j .place) in
-      ap (λ (x : Position). any (lineNames file who) (linesPast file x)) same ∙ of .only o
+      ap (λ (x : Position). any (lineNames file who) (linesPast file x)) same ∙ alone-told (ch .audience) _ (sym (of .only) ∙ o)
 
 module _ (file who path scratch₀ scratch : List ℕ) (whole only : Bool) (heard : Hearing) (c : Considered) (p : Position) (g : Gathered) (now : Reached file who path scratch₀ scratch whole only heard c p g) (h : p .place .offset < length file) (r : Position) (past : PassedLine file p r) (k : Kind) (s : k ≡ entryKind (kindOf (textAt file (p .place)))) where
   -- no line behind it names who, where that is known

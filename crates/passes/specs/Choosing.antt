@@ -1,8 +1,9 @@
 -- Whose groups apply, and which lines name them, as a pass over the agent lines tells it. Assumes nothing.
 use Prim.Native.Nat.{ℕ, _≤_}
 use mathlib.Core.Path.{_≡_}
-use mathlib.Core.Bool.{true, false}
+use mathlib.Core.Bool.{Bool, true, false, not}
 use mathlib.Core.List.{List}
+use lib.ListN.{length}
 use Rattle.lists.specs.Lists.{any, from}
 use Rattle.protocol.specs.declared.Place.{Place}
 use Rattle.protocol.specs.declared.Position.{Position}
@@ -26,9 +27,17 @@ afterLine Audience.Nobody Audience.Everyone p c = record { audience = Audience.E
 afterLine before Audience.Crawler p c = c
 afterLine before Audience.Nobody p c = c
 
--- a is chosen; no line in front of the first place names them; and none behind the line there, where it is the only one
+-- it is told that no line behind the first one names them too: a pass ends at the first line that names the crawler, and knows nothing of others
+abbrev pub knownAlone : Audience → Bool → Bool
+knownAlone Audience.Crawler others = false
+knownAlone Audience.Everyone others = not others
+knownAlone Audience.Nobody others = not others
+
+-- a is chosen, and the first place is that of the first line that names them, or the file's end where none does. There is one such c
+-- (proofs/Choices: chosen-one).
 pub record ChosenOf (file crawler : List ℕ) (a : Audience) (c : Chosen) : Type 0 where
   pub audience : c .audience ≡ a
   pub further : skipped file ≤ c .first .offset
-  pub first : from (lineNames file (whom a crawler)) (linesOf file) ≡ from (lineNames file (whom a crawler)) (linesOn file (lineAt file (c .first)))
-  pub only : c .only ≡ true → any (lineNames file (whom a crawler)) (linesPast file (lineAt file (c .first))) ≡ false
+  pub inside : c .first .offset ≤ length file
+  pub first : from (lineNames file (whom a crawler)) (linesOf file) ≡ linesOn file (lineAt file (c .first))
+  pub only : c .only ≡ knownAlone a (any (lineNames file (whom a crawler)) (linesPast file (lineAt file (c .first))))

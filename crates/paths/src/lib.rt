@@ -11,7 +11,10 @@ use protocol::Normalised;
 fn holds_outside(path: &[u8]) -> bool
     ensures { λ r. ⌜ r ≡ any outsidePath (now (path .entry)) ⌝ }
 {
-    let mut i = text::clear_front(path, 0, b'#', true);
+    let mut i = 0;
+    if 8 <= path.len() {
+        i = text::clear_front(path, 0, b'#', true);
+    }
     while i < path.len() {
         if octets::is_outside_path(path[i]) {
             return true;

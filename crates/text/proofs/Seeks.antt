@@ -5,15 +5,14 @@ use mathlib.Core.Bool.{Bool, true, false, not, true≢false, Bool·beq}
 use mathlib.Core.List.{List, [], _∷_}
 use native.Mathlib.Omega.{arith}
 use lib.Dec.{eqb, leb}
-use lib.ListN.{length, take, drop, length-drop}
-use lib.Seq.{drop-drop, length-take-le}
+use lib.ListN.{length, take, drop}
+use lib.Seq.{drop-drop}
 use borrow.Author.Tests.{eqb-true, eqb-false, leb-true, le-leb, lt-leb}
 use Rattle.lists.specs.Choice.{if_then_else_}
 use Rattle.lists.specs.Lists.{any, upTo}
 use Rattle.lists.proofs.Bools.{split}
 use Rattle.lists.proofs.Parts.{upTo-stop, upTo-on}
 use Rattle.lists.proofs.Scans.{upTo-fits}
-use Rattle.lists.proofs.Cuts.{upTo-none}
 use Rattle.protocol.specs.Octets.{is, lineEnd}
 use Rattle.words.specs.Words.{among}
 use Rattle.text.specs.Parts.{equals}
@@ -51,20 +50,12 @@ module _ {A : Type 0} (f : A → Bool) where
       (λ e. rw (upTo-on f x (take n l) e, upTo-on f x l e) (omega (arith, upTo-part n l)))
 
   -- and behind the first k elements, where it passes these
-  upTo-behind : (k : ℕ) (l : List A) → k ≤ length (upTo f l) → k + length (upTo f (drop k l)) ≡ length (upTo f l)
+  pub upTo-behind : (k : ℕ) (l : List A) → k ≤ length (upTo f l) → k + length (upTo f (drop k l)) ≡ length (upTo f l)
   upTo-behind zero l h = omega arith
   upTo-behind (suc k) [] h = absurd (omega (arith, h, upTo-fits f []))
   upTo-behind (suc k) (x ∷ l) h =
       split (f x) (λ e. absurd (omega (arith, h, ap length (upTo-stop f x l e))))
       (λ e. rw (upTo-on f x l e) (omega (arith, upTo-behind k l (omega (arith, h, ap length (upTo-on f x l e))))))
-
-  -- then it passes the n behind them too, where none of these stops it
-  pub upTo-more : (k n : ℕ) (l : List A) → k ≤ length (upTo f l) → k + n ≤ length l → any f (take n (drop k l)) ≡ false
-      → k + n ≤ length (upTo f l)
-  upTo-more k n l h fits none =
-      let part = drop k l in
-      let size = ap length (upTo-none f (take n part) none) ∙ length-take-le n part (simp length-drop (omega arith)) in
-      omega (arith, upTo-behind k l h, upTo-part n part, size)
 
   -- it passes all elements where none passes a test that is passed wherever f is
   pub wider-none : (g : A → Bool) → ((x : A) → f x ≡ true → g x ≡ true) → (l : List A) → any g l ≡ false → length (upTo f l) ≡ length l

@@ -167,25 +167,24 @@ pub fn trimmed_length(classes: &ClassTable, s: &[u8]) -> usize
     n
 }
 
-// Octets at the front of which none is of that sort, eight at a time, the last eight once more, so that none are left over: all of them where
-// none is; else those in front of the first eight with one, or none of a text of less than eight.
+// The octets in front of the first of that sort, all of them where there is none. Eight are looked at at a time, the last eight once more, so that
+// none are left over; so there have to be eight. Who has less looks at each.
 pub fn clear_front(s: &[u8], low: u8, high: u8, inside: bool) -> usize
-    requires { ⌜ (low ≤ 128) × (high ≤ 127) ⌝ }
-    ensures { λ r. ⌜ r ≤ length (upTo (among low high inside) (now (s .entry))) ⌝ }
+    requires { ⌜ (8 ≤ length (now s)) × (low ≤ 128) × (high ≤ 127) ⌝ }
+    ensures { λ r. ⌜ r ≡ length (upTo (among low high inside) (now (s .entry))) ⌝ }
 {
-    if s.len() < 8 {
-        return 0;
-    }
     let last = s.len() - 8;
     let mut i = 0;
     while i < last {
-        if words::marks(words::word_at(s, i), low, high, inside) != 0 {
-            return i;
+        let m = words::marks(words::word_at(s, i), low, high, inside);
+        if m != 0 {
+            return i + words::first_mark(m);
         }
         i += 8;
     }
-    if words::marks(words::word_at(s, last), low, high, inside) != 0 {
-        return i;
+    let m = words::marks(words::word_at(s, last), low, high, inside);
+    if m != 0 {
+        return last + words::first_mark(m);
     }
     s.len()
 }
@@ -195,7 +194,10 @@ pub fn holds_line_end(classes: &ClassTable, s: &[u8]) -> bool
     requires { ⌜ now classes ≡ classTable ⌝ }
     ensures { λ r. ⌜ r ≡ any lineEnd (now (s .entry)) ⌝ }
 {
-    let front = clear_front(s, 0, b'\r', true);
+    let mut front = 0;
+    if 8 <= s.len() {
+        front = clear_front(s, 0, b'\r', true);
+    }
     let rest = &s[front..];
     scan(classes, rest, Sort::LineEnd, true) < rest.len()
 }

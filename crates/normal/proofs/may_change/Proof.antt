@@ -2,11 +2,12 @@
 use Prim.Native.Nat.{ℕ, _-_, _≤_}
 use mathlib.Core.Path.{_≡_, sym, _∙_}
 use mathlib.Core.Bool.{true, false}
+use mathlib.Core.Logic.{⊎-elim}
 use mathlib.Core.List.{List}
 use native.Mathlib.Omega.{arith}
 use lib.ListN.{length, drop, getD}
 use borrow.Author.Tests.{not-true, not-false}
-use Rattle.lists.specs.Lists.{any}
+use Rattle.lists.specs.Lists.{any, upTo}
 use Rattle.lists.proofs.Scans.{upTo-fits}
 use Rattle.lists.proofs.Cuts.{any-behind}
 use Rattle.lists.proofs.Tests.{any-end, any-here, any-on}
@@ -25,13 +26,17 @@ abbrev μ-loop : tie.MeasureT-loop
 clear-front-requires : tie.Need-clear-front-requires Inv-loop μ-loop
 clear-front-requires c κs = omega arith
 
-abbrev whole : tie.After-clear-front Inv-loop μ-loop → List ℕ
-whole c = c .before .before .args .path .now
+module _ (c : tie.Joined1 Inv-loop μ-loop) where
+  abbrev whole : List ℕ
+  whole = c .before .before .args .path .now
+
+  -- no octet that isn't literal is passed over
+  clear : c .if1 .i ≤ length (upTo notLiteral whole)
+  clear = ⊎-elim (λ t. omega (arith, t .2, t .1 .ensures)) (λ t. omega (arith, t .1)) (c .if1 .came)
 
 loop-holds : tie.Need-loop-holds Inv-loop μ-loop
 loop-holds c =
-    let clear = c .clear-front .ensures in
-    (omega (arith, clear, upTo-fits notLiteral (whole c)), any-behind (isEncoded false) notLiteral encoded-other _ (whole c) clear)
+    (omega (arith, clear c, upTo-fits notLiteral (whole c)), any-behind (isEncoded false) notLiteral encoded-other _ (whole c) (clear c))
 
 shared-slice-read-is-kept : tie.Need-shared-slice-read-is-kept Inv-loop μ-loop
 shared-slice-read-is-kept c = omega arith
@@ -49,7 +54,7 @@ module _ (c : tie.At-loop Inv-loop μ-loop) where
 returns : tie.Need-returns Inv-loop μ-loop
 returns c =
     let s = c .before .before .before .before in
-    let e : isEncoded false (getD (path s) (i s) 0) ≡ true = not-false _ (sym (c .before .is-kept .ensures) ∙ not-true _ (c .if1 .taken)) in
+    let e : isEncoded false (getD (path s) (i s) 0) ≡ true = not-false _ (sym (c .before .is-kept .ensures) ∙ not-true _ (c .if2 .taken)) in
     sym (any-here (isEncoded false) (path s) (i s) 0 (omega arith) e) ∙ s .loop .inv .1
 
 add-i : tie.Need-add-i Inv-loop μ-loop
@@ -60,8 +65,9 @@ loop-less c = omega arith
 
 loop-again : tie.Need-loop-again Inv-loop μ-loop
 loop-again c =
-    let s = c .before .before .before .before in
-    let e : isEncoded false (getD (path s) (i s) 0) ≡ false = not-true _ (sym (c .before .is-kept .ensures) ∙ not-false _ (c .if1 .left)) in
+    let b = c .before in
+    let s = b .before .before .before .before in
+    let e : isEncoded false (getD (path s) (i s) 0) ≡ false = not-true _ (sym (b .before .is-kept .ensures) ∙ not-false _ (b .if2 .left)) in
     (omega arith, sym (any-on (isEncoded false) (path s) (i s) 0 (omega arith) e) ∙ s .loop .inv .1)
 
 returns-2 : tie.Need-returns-2 Inv-loop μ-loop

@@ -2,6 +2,7 @@
 use Prim.Native.Nat.{ℕ, _-_, _≤_}
 use mathlib.Core.Path.{_≡_, sym, _∙_}
 use mathlib.Core.Bool.{true}
+use mathlib.Core.Logic.{⊎-elim}
 use mathlib.Core.List.{List}
 use native.Mathlib.Omega.{arith}
 use lib.ListN.{length, drop}
@@ -24,13 +25,13 @@ abbrev μ-loop : tie.MeasureT-loop
 clear-front-requires : tie.Need-clear-front-requires Inv-loop μ-loop
 clear-front-requires c κs = omega arith
 
-module _ (c : tie.After-clear-front Inv-loop μ-loop) where
+module _ (c : tie.Joined1 Inv-loop μ-loop) where
   abbrev whole : List ℕ
   whole = c .before .before .args .path .now
 
   -- no octet up to "#" is passed over
-  clear : c .clear-front .result ≤ length (upTo (among 0 35 true) whole)
-  clear = c .clear-front .ensures
+  clear : c .if1 .i ≤ length (upTo (among 0 35 true) whole)
+  clear = ⊎-elim (λ t. omega (arith, t .2, t .1 .ensures)) (λ t. omega (arith, t .1)) (c .if1 .came)
 
 loop-holds : tie.Need-loop-holds Inv-loop μ-loop
 loop-holds c =
@@ -52,7 +53,7 @@ is-outside-path-requires c κs = tt
 returns : tie.Need-returns Inv-loop μ-loop
 returns c =
     let s = c .before .before .before .before in
-    let e = sym (c .before .is-outside-path .ensures) ∙ c .if1 .taken in
+    let e = sym (c .before .is-outside-path .ensures) ∙ c .if2 .taken in
     sym (any-here outsidePath (path s) (i s) 0 (omega arith) e) ∙ s .loop .inv .1
 
 add-i : tie.Need-add-i Inv-loop μ-loop
@@ -63,8 +64,9 @@ loop-less c = omega arith
 
 loop-again : tie.Need-loop-again Inv-loop μ-loop
 loop-again c =
-    let s = c .before .before .before .before in
-    let e = sym (c .before .is-outside-path .ensures) ∙ c .if1 .left in
+    let b = c .before in
+    let s = b .before .before .before .before in
+    let e = sym (b .before .is-outside-path .ensures) ∙ b .if2 .left in
     (omega arith, sym (any-on outsidePath (path s) (i s) 0 (omega arith) e) ∙ s .loop .inv .1)
 
 returns-2 : tie.Need-returns-2 Inv-loop μ-loop

@@ -2,7 +2,7 @@
 use mathlib.Core.Path.{refl, sym, _∙_}
 use borrow.Author.Needs.{needs}
 use Rattle.passes.specs.Entries.{audienceFor}
-use Rattle.passes.proofs.Choices.{mark-inside, chosen-nobody}
+use Rattle.passes.proofs.Choices.{chosen-nobody}
 use Rattle.decide.proofs.answers.audience_for.Statement.{statement}
 use Rattle.decide.proofs.answers.audience_for.Tie as tie
 
@@ -14,7 +14,7 @@ unfolding audienceFor
 returns c =
     let r = c .before in
     let a = r .before .before .before .before .args in
-    chosen-nobody (a .file .now) (a .name .now) _ _ refl (rw (sym (r .is-robots-file .ensures) ∙ c .if1 .taken)) (mark-inside (a .file .now))
+    chosen-nobody (a .file .now) (a .name .now) _ _ refl (rw (sym (r .is-robots-file .ensures) ∙ c .if1 .taken)) refl refl
 
 choose-audience-requires : tie.Need-choose-audience-requires
 choose-audience-requires c κs = search needs
