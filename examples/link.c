@@ -20,8 +20,9 @@ static int read_file(const char *where, size_t *length)
     return !failed;
 }
 
-/* What each function is asked. */
-#define QUESTION file, length, (const uint8_t *)name, strlen(name), (const uint8_t *)path, strlen(path)
+/* What each function is asked: by the RFC. */
+#define QUESTION \
+    ROBOTS_RFC9309, file, length, (const uint8_t *)name, strlen(name), (const uint8_t *)path, strlen(path)
 
 int main(int argc, char **argv)
 {

@@ -1,5 +1,5 @@
 /*
- * robots.h - questions about robots.txt files (RFC 9309).
+ * robots.h - questions about robots.txt files (RFC 9309, and the draft of 1996).
  *
  * May this crawler fetch this path, by this rules file? The library answers
  * allow or disallow, with the rule that decided. It ends with an answer on any
@@ -14,8 +14,9 @@
  *     int main(void) {
  *         const uint8_t file[] = "user-agent: *\ndisallow: /sailings/draft\n";
  *         const uint8_t name[] = "drydockbot", path[] = "/sailings/draft/9";
- *         size_t disallow = robots_decide_disallow(file, sizeof file - 1,
- *             name, sizeof name - 1, path, sizeof path - 1);
+ *         size_t disallow = robots_decide_disallow(ROBOTS_RFC9309,
+ *             file, sizeof file - 1, name, sizeof name - 1,
+ *             path, sizeof path - 1);
  *         puts(disallow ? "disallow" : "allow");
  *         return disallow ? 1 : 0;
  *     }
@@ -44,9 +45,25 @@ extern "C" {
 #endif
 
 /*
+ * Whose rules decide: the first argument of the functions named robots_decide_...
+ *
+ * The dialect changes two things: what a pattern means, and which of the rules
+ * that match decides. By the RFC "*" and a final "$" have a meaning in a pattern,
+ * and the heaviest match decides. By the draft of 1996 they are octets like
+ * others, and the first match in file order decides. Lines, groups, names and
+ * paths are read alike. Any other number, however large, is no dialect: it is
+ * refused, and so disallowed, before anything else is looked at.
+ */
+enum robots_dialect {
+    ROBOTS_RFC9309 = 0,  /* the RFC's */
+    ROBOTS_DRAFT1996 = 1 /* that of the draft of 1996, for old servers only: a
+                            file for the RFC may close less by it */
+};
+
+/*
  * Why a question is refused: what the functions named robots_..._refusal
  * answer. Each tests what concerns its question, and gives the smallest number
- * that holds.
+ * that holds; but ROBOTS_REFUSED_DIALECT is tested first of all.
  */
 enum robots_refusal {
     ROBOTS_ANSWERED = 0,            /* not refused */
@@ -62,7 +79,8 @@ enum robots_refusal {
     ROBOTS_REFUSED_INPUT = 7,       /* input over 65,536 octets: the program
                                        robots_decide only, no function */
     ROBOTS_REFUSED_PATTERN = 8,     /* pattern empty or unreadable */
-    ROBOTS_REFUSED_LINES = 9        /* line holds CR or LF */
+    ROBOTS_REFUSED_LINES = 9,       /* line holds CR or LF */
+    ROBOTS_REFUSED_DIALECT = 20     /* no number of enum robots_dialect */
 };
 
 /*
@@ -102,6 +120,9 @@ enum robots_limit {
 /*
  * May a crawler fetch a path, by a rules file?
  *
+ * `dialect` is a number of enum robots_dialect: give ROBOTS_RFC9309 unless the
+ * server's files are known to be written for the draft.
+ *
  * `file` is a whole robots.txt as it was fetched; it may be empty. `name` is
  * the crawler's name, without a version: it is compared with the names of
  * user-agent lines, as told above, ignoring ASCII case, and is equal or
@@ -109,11 +130,20 @@ enum robots_limit {
  * is given raw, with its query if any.
  *
  * If any group of the file names the crawler, the rules of all such groups
- * apply; otherwise those of all groups that name "*"; otherwise none. Of the
- * rules that match the path the heaviest decides, allow before disallow at
- * equal weight, then the earliest line. A match and a weight are as below, with
- * robots_match_found and robots_match_compared. If no rule matches, or if the
- * normalised path is /robots.txt, no rule decides and the answer is allow.
+ * apply; otherwise those of all groups that name "*"; otherwise none. If no rule
+ * matches, or if the normalised path is /robots.txt, no rule decides and the
+ * answer is allow.
+ *
+ * ROBOTS_RFC9309: of the rules that match the path the heaviest decides, allow
+ * before disallow at equal weight, then the earliest line. A match and a weight
+ * are as below, with robots_match_found and robots_match_compared.
+ *
+ * ROBOTS_DRAFT1996: of the rules that match the path the first in file order
+ * decides, over all groups that apply, and none behind it is compared. "*" and
+ * "$" in a pattern stand for themselves and are normalised as in a path, to %2A
+ * and %24. A rule matches if its normalised pattern is a beginning of the
+ * normalised path; its weight is the octets of that pattern. So a rule such as
+ * "*.gif", which is read as in the RFC, matches no path.
  *
  * The seven functions take the same question, and each answers one number of
  * the same decision. If refused, robots_decide_disallow answers 1, and line,
@@ -121,13 +151,15 @@ enum robots_limit {
  */
 
 /*
- * Why a file, a name and a path are refused.
+ * Why a dialect, a file, a name and a path are refused.
  *
- * Answers ROBOTS_ANSWERED if they aren't, else ROBOTS_REFUSED_LENGTH,
- * ROBOTS_REFUSED_NAME, ROBOTS_REFUSED_PATH_LENGTH, ROBOTS_REFUSED_PATH_START
- * or ROBOTS_REFUSED_PATH_OCTET.
+ * Answers ROBOTS_ANSWERED if they aren't, else ROBOTS_REFUSED_DIALECT,
+ * ROBOTS_REFUSED_LENGTH, ROBOTS_REFUSED_NAME, ROBOTS_REFUSED_PATH_LENGTH,
+ * ROBOTS_REFUSED_PATH_START or ROBOTS_REFUSED_PATH_OCTET: the first of these
+ * that holds.
  */
-size_t robots_decide_refusal(const uint8_t *file, size_t file_length,
+size_t robots_decide_refusal(size_t dialect,
+                             const uint8_t *file, size_t file_length,
                              const uint8_t *name, size_t name_length,
                              const uint8_t *path, size_t path_length);
 
@@ -136,7 +168,8 @@ size_t robots_decide_refusal(const uint8_t *file, size_t file_length,
  *
  * Answers 0 for allow and 1 for disallow. Answers 1 if refused.
  */
-size_t robots_decide_disallow(const uint8_t *file, size_t file_length,
+size_t robots_decide_disallow(size_t dialect,
+                              const uint8_t *file, size_t file_length,
                               const uint8_t *name, size_t name_length,
                               const uint8_t *path, size_t path_length);
 
@@ -146,7 +179,8 @@ size_t robots_decide_disallow(const uint8_t *file, size_t file_length,
  * It is the line of the deciding rule. Answers 0 if no rule decided, and if
  * refused.
  */
-size_t robots_decide_line(const uint8_t *file, size_t file_length,
+size_t robots_decide_line(size_t dialect,
+                          const uint8_t *file, size_t file_length,
                           const uint8_t *name, size_t name_length,
                           const uint8_t *path, size_t path_length);
 
@@ -158,7 +192,8 @@ size_t robots_decide_line(const uint8_t *file, size_t file_length,
  * are the pattern raw, as it is written there. If the file begins with
  * EF BB BF, these octets are skipped, but the places count from the first.
  */
-size_t robots_decide_place(const uint8_t *file, size_t file_length,
+size_t robots_decide_place(size_t dialect,
+                           const uint8_t *file, size_t file_length,
                            const uint8_t *name, size_t name_length,
                            const uint8_t *path, size_t path_length);
 
@@ -168,7 +203,8 @@ size_t robots_decide_place(const uint8_t *file, size_t file_length,
  *
  * Answers 0 if no rule decided, and if refused.
  */
-size_t robots_decide_length(const uint8_t *file, size_t file_length,
+size_t robots_decide_length(size_t dialect,
+                            const uint8_t *file, size_t file_length,
                             const uint8_t *name, size_t name_length,
                             const uint8_t *path, size_t path_length);
 
@@ -179,19 +215,25 @@ size_t robots_decide_length(const uint8_t *file, size_t file_length,
  *
  * Answers 0 if refused; an answer of 0 by itself is no refusal.
  */
-size_t robots_decide_unread(const uint8_t *file, size_t file_length,
+size_t robots_decide_unread(size_t dialect,
+                            const uint8_t *file, size_t file_length,
                             const uint8_t *name, size_t name_length,
                             const uint8_t *path, size_t path_length);
 
 /*
  * The number of pairs of octets that were compared to decide.
  *
- * It is the sum of what robots_match_compared answers for each readable rule
- * that applies, and 0 if the normalised path is /robots.txt. It is at most the
- * summed weights of those rules, times the octets of the normalised path.
- * Answers 0 if refused; an answer of 0 by itself is no refusal.
+ * ROBOTS_RFC9309: it is the sum of what robots_match_compared answers for each
+ * readable rule that applies. ROBOTS_DRAFT1996: the sum goes over the readable
+ * rules that apply up to the deciding one, or over all if none decides; each
+ * compares its pattern with the path from the first octet to the first
+ * difference, and a pattern that is longer than the path compares nothing. In
+ * both it is 0 if the normalised path is /robots.txt, and at most the summed
+ * weights of those rules, times the octets of the normalised path. Answers 0 if
+ * refused; an answer of 0 by itself is no refusal.
  */
-size_t robots_decide_compared(const uint8_t *file, size_t file_length,
+size_t robots_decide_compared(size_t dialect,
+                              const uint8_t *file, size_t file_length,
                               const uint8_t *name, size_t name_length,
                               const uint8_t *path, size_t path_length);
 
@@ -258,14 +300,14 @@ size_t robots_line_length(const uint8_t *line, size_t line_length);
 /*
  * One pattern against one path.
  *
- * The pattern is given raw, as it stands in a rule line. "*" is a star: it
- * stands for any number of octets of the normalised path, none included, and
- * may stop inside a %XX. "$" as the last octet is the end mark. All else
- * stands for itself; %61 is "a", but %2F isn't "/". A pattern is readable if
- * it begins with "/" or "*" and is UTF-8 that holds neither "#" nor an octet
- * under 0x21: so "*.gif$" is, and "gif" and "$" aren't. The path is given raw
- * too, with its query if any. Both are normalised before they are compared.
- * /robots.txt is a path like others here.
+ * This is the RFC's dialect. The pattern is given raw, as it stands in a rule
+ * line. "*" is a star: it stands for any number of octets of the normalised
+ * path, none included, and may stop inside a %XX. "$" as the last octet is the
+ * end mark. All else stands for itself; %61 is "a", but %2F isn't "/". A
+ * pattern is readable if it begins with "/" or "*" and is UTF-8 that holds
+ * neither "#" nor an octet under 0x21: so "*.gif$" is, and "gif" and "$"
+ * aren't. The path is given raw too, with its query if any. Both are normalised
+ * before they are compared. /robots.txt is a path like others here.
  */
 
 /*

@@ -1,8 +1,9 @@
-"""Questions about robots.txt files (RFC 9309), asked of librobots.so.
+"""Questions about robots.txt files (RFC 9309, and the draft of 1996), asked of librobots.so.
 
 The library's exported functions, one to one, and decide(), which asks for a
-whole decision. Octets are given as bytes. include/robots.h says what each
-function answers, and names the numbers.
+whole decision. Octets are given as bytes. A decision is made by the RFC unless
+another dialect is given, last. include/robots.h says what each function answers,
+and names the numbers.
 
 The library is target/shared/librobots.so, which 'make shared' makes, or the
 file that the environment variable ROBOTS_LIBRARY names.
@@ -10,6 +11,8 @@ file that the environment variable ROBOTS_LIBRARY names.
 
 import ctypes
 import enum
+import functools
+import operator
 import os
 import pathlib
 from typing import NamedTuple
@@ -31,6 +34,14 @@ class Refusal(enum.IntEnum):
     INPUT = 7  # the program's only: no function gives it
     PATTERN = 8
     LINES = 9
+    DIALECT = 20
+
+
+class Dialect(enum.IntEnum):
+    """Whose rules decide. Another number is refused."""
+
+    RFC9309 = 0  # the heaviest match decides
+    DRAFT1996 = 1  # the first match in file order; "*" and "$" stand for themselves
 
 
 class Decision(NamedTuple):
@@ -48,15 +59,17 @@ class Decision(NamedTuple):
 # a pointer and a length; c_char_p takes bytes alone, and doesn't end at a NUL
 _OCTETS = (ctypes.c_char_p, ctypes.c_size_t)
 _BUFFER = (ctypes.c_void_p, ctypes.c_size_t)
+# a dialect, a file, a name and a path
+_DECISION = (ctypes.c_size_t,) + _OCTETS * 3
 
 _ARGUMENTS = {
-    "robots_decide_refusal": _OCTETS * 3,
-    "robots_decide_disallow": _OCTETS * 3,
-    "robots_decide_line": _OCTETS * 3,
-    "robots_decide_place": _OCTETS * 3,
-    "robots_decide_length": _OCTETS * 3,
-    "robots_decide_unread": _OCTETS * 3,
-    "robots_decide_compared": _OCTETS * 3,
+    "robots_decide_refusal": _DECISION,
+    "robots_decide_disallow": _DECISION,
+    "robots_decide_line": _DECISION,
+    "robots_decide_place": _DECISION,
+    "robots_decide_length": _DECISION,
+    "robots_decide_unread": _DECISION,
+    "robots_decide_compared": _DECISION,
     "robots_match_refusal": _OCTETS * 2,
     "robots_match_found": _OCTETS * 2,
     "robots_match_compared": _OCTETS * 2,
@@ -92,52 +105,69 @@ def _asked(function, *texts):
     return function(*(part for text in texts for part in (text, len(text))))
 
 
-def decide(file: bytes, name: bytes, path: bytes) -> Decision:
+def _size(number, argument):
+    """The number as it is: ctypes would cut it down to a size_t, and 2**64 to 0."""
+    try:
+        number = operator.index(number)
+    except TypeError:
+        raise TypeError(f"{argument} has to be an int, not {type(number).__name__}") from None
+    if not 0 <= number <= ctypes.c_size_t(-1).value:
+        raise ValueError(f"{argument} has to be a size_t, and {number} is none")
+    return number
+
+
+def _decided(function, dialect, *texts):
+    """Asks for one number of a decision."""
+    return _asked(functools.partial(function, _size(dialect, "dialect")), *texts)
+
+
+def decide(file: bytes, name: bytes, path: bytes, dialect: int = Dialect.RFC9309) -> Decision:
     """May the crawler fetch the path, by the file? It asks seven questions."""
+    question = (file, name, path, dialect)
     return Decision(
-        Refusal(decide_refusal(file, name, path)),
-        decide_disallow(file, name, path) != 0,
-        decide_line(file, name, path),
-        decide_place(file, name, path),
-        decide_length(file, name, path),
-        decide_unread(file, name, path),
-        decide_compared(file, name, path),
+        Refusal(decide_refusal(*question)),
+        decide_disallow(*question) != 0,
+        decide_line(*question),
+        decide_place(*question),
+        decide_length(*question),
+        decide_unread(*question),
+        decide_compared(*question),
     )
 
 
-def decide_refusal(file: bytes, name: bytes, path: bytes) -> int:
-    """The refusal of a file, a name and a path; 0 if answered."""
-    return _asked(_library.robots_decide_refusal, file, name, path)
+def decide_refusal(file: bytes, name: bytes, path: bytes, dialect: int = Dialect.RFC9309) -> int:
+    """The refusal of a dialect, a file, a name and a path; 0 if answered."""
+    return _decided(_library.robots_decide_refusal, dialect, file, name, path)
 
 
-def decide_disallow(file: bytes, name: bytes, path: bytes) -> int:
+def decide_disallow(file: bytes, name: bytes, path: bytes, dialect: int = Dialect.RFC9309) -> int:
     """1 if the path is disallowed, 0 if it is allowed; 1 if refused."""
-    return _asked(_library.robots_decide_disallow, file, name, path)
+    return _decided(_library.robots_decide_disallow, dialect, file, name, path)
 
 
-def decide_line(file: bytes, name: bytes, path: bytes) -> int:
+def decide_line(file: bytes, name: bytes, path: bytes, dialect: int = Dialect.RFC9309) -> int:
     """The deciding line, from 1; 0 if no rule decided."""
-    return _asked(_library.robots_decide_line, file, name, path)
+    return _decided(_library.robots_decide_line, dialect, file, name, path)
 
 
-def decide_place(file: bytes, name: bytes, path: bytes) -> int:
+def decide_place(file: bytes, name: bytes, path: bytes, dialect: int = Dialect.RFC9309) -> int:
     """The place in the file of the deciding rule's raw pattern."""
-    return _asked(_library.robots_decide_place, file, name, path)
+    return _decided(_library.robots_decide_place, dialect, file, name, path)
 
 
-def decide_length(file: bytes, name: bytes, path: bytes) -> int:
+def decide_length(file: bytes, name: bytes, path: bytes, dialect: int = Dialect.RFC9309) -> int:
     """The length of the deciding rule's raw pattern."""
-    return _asked(_library.robots_decide_length, file, name, path)
+    return _decided(_library.robots_decide_length, dialect, file, name, path)
 
 
-def decide_unread(file: bytes, name: bytes, path: bytes) -> int:
+def decide_unread(file: bytes, name: bytes, path: bytes, dialect: int = Dialect.RFC9309) -> int:
     """The unreadable agent and rule lines in the whole file; 0 if refused."""
-    return _asked(_library.robots_decide_unread, file, name, path)
+    return _decided(_library.robots_decide_unread, dialect, file, name, path)
 
 
-def decide_compared(file: bytes, name: bytes, path: bytes) -> int:
+def decide_compared(file: bytes, name: bytes, path: bytes, dialect: int = Dialect.RFC9309) -> int:
     """The pairs of octets that the walks compare; 0 if refused."""
-    return _asked(_library.robots_decide_compared, file, name, path)
+    return _decided(_library.robots_decide_compared, dialect, file, name, path)
 
 
 def match_refusal(pattern: bytes, path: bytes) -> int:
@@ -167,9 +197,7 @@ def normalise(path: bytes, buffer: bytearray) -> int:
 
 def normalise_refusal(path: bytes, room: int) -> int:
     """The refusal of a path for a buffer of so many octets; 0 if answered."""
-    if not 0 <= room <= ctypes.c_size_t(-1).value:
-        raise ValueError("room has to be a size_t: give the length of a buffer")
-    return _library.robots_normalise_refusal(path, len(path), room)
+    return _library.robots_normalise_refusal(path, len(path), _size(room, "room"))
 
 
 def line_refusal(line: bytes) -> int:

@@ -1,4 +1,4 @@
-"""Document 01's example, M-102's, a refusal and a lent buffer, asked through the binding."""
+"""Document 01's example, M-102's, both dialects, refusals and a lent buffer, asked through the binding."""
 
 import ctypes
 import unittest
@@ -42,6 +42,70 @@ class Deciding(unittest.TestCase):
                 robots.decide(FILE, b"drydockbot", text)
 
 
+BROAD = b"user-agent: *\nallow: /sailings\ndisallow: /sailings/draft\n"
+NUMBERS = (
+    robots.decide_refusal,
+    robots.decide_disallow,
+    robots.decide_line,
+    robots.decide_place,
+    robots.decide_length,
+    robots.decide_unread,
+    robots.decide_compared,
+)
+
+
+def numbers(*question, **more):
+    return tuple(number(*question, **more) for number in NUMBERS)
+
+
+class Dialects(unittest.TestCase):
+    """M-113: "Add that dialect as a choice (1; 0 is the RFC's)" """
+
+    def test_the_rfcs_is_the_default(self):
+        of_rfc = (0, True, 3, 41, 15, 0, 24)
+        self.assertEqual(robots.decide(BROAD, b"a", PATH), of_rfc)
+        self.assertEqual(robots.decide(BROAD, b"a", PATH, dialect=robots.Dialect.RFC9309), of_rfc)
+        self.assertEqual(numbers(BROAD, b"a", PATH), of_rfc)
+
+    def test_the_drafts(self):
+        """The first match decides, and its 9 octets are all that is compared."""
+        of_draft = (0, False, 2, 21, 9, 0, 9)
+        for dialect in (robots.Dialect.DRAFT1996, 1):
+            self.assertEqual(robots.decide(BROAD, b"a", PATH, dialect=dialect), of_draft)
+            self.assertEqual(robots.decide(BROAD, b"a", PATH, dialect), of_draft)
+            self.assertEqual(numbers(BROAD, b"a", PATH, dialect=dialect), of_draft)
+
+    def test_star_and_dollar_in_the_drafts(self):
+        """/* is /%2A there, and /x$ is /x%24."""
+        draft = robots.Dialect.DRAFT1996
+        for pattern, path, compared in ((b"/*", b"/*", 4), (b"/x$", b"/x$", 5)):
+            file = b"user-agent: *\ndisallow: " + pattern
+            decision = robots.decide(file, b"a", path, dialect=draft)
+            self.assertEqual(decision, (0, True, 2, 24, len(pattern), 0, compared))
+            self.assertEqual(robots.decide_disallow(file, b"a", b"/x", dialect=draft), 0)
+            self.assertEqual(robots.decide_disallow(file, b"a", b"/x"), 1)
+
+    def test_an_unknown_one_is_refused_first(self):
+        """"Refusals: 20 for an unknown dialect, first of all." """
+        for dialect in (2, 3, 255, 256, 257, 2**16, 2**32, 2**32 + 1, 2**63, 2**64 - 1):
+            for name, path in ((b"a", PATH), (b"no name", b"")):
+                decision = robots.decide(BROAD, name, path, dialect=dialect)
+                self.assertEqual(decision, (20, True, 0, 0, 0, 0, 0))
+                self.assertIs(decision.refusal, robots.Refusal.DIALECT)
+
+    def test_no_number_is_cut_down(self):
+        for dialect in (2**64, 2**64 + 1, 2**65, 2**128, -1, -(2**64), 1 - 2**64):
+            for number in (robots.decide, *NUMBERS):
+                with self.assertRaisesRegex(ValueError, "dialect"):
+                    number(BROAD, b"a", PATH, dialect=dialect)
+
+    def test_what_is_no_number(self):
+        for dialect in (1.0, 0.5, "0", b"\0", None):
+            for number in (robots.decide, *NUMBERS):
+                with self.assertRaisesRegex(TypeError, "dialect"):
+                    number(BROAD, b"a", PATH, dialect=dialect)
+
+
 class OtherQuestions(unittest.TestCase):
     def test_a_match(self):
         """The seventh row of document 01's table: 5 for /page, and 9."""
@@ -75,7 +139,7 @@ class Normalising(unittest.TestCase):
 
     def test_a_room_that_is_no_size(self):
         for room in (-1, 2**64):
-            with self.assertRaises(ValueError):
+            with self.assertRaisesRegex(ValueError, "room"):
                 robots.normalise_refusal(b"/", room)
 
     def test_the_longest(self):

@@ -112,6 +112,51 @@ static const struct decide_row decide_rows[] = {
     {{TEXT("user-agent: 9\nuser-agent: *\nallow: /")}, {TEXT("a")}, {TEXT("/\0")}, ROBOTS_REFUSED_PATH_OCTET, REFUSED},
 };
 
+/* The draft's record, section 3.2. */
+#define RECORD TEXT("user-agent: webcrawler\nuser-agent: infoseek\nallow: /tmp/ok.html\ndisallow: /tmp\ndisallow: /user/foo")
+
+/* The dialect of the draft of 1996 (M-113). */
+static const struct decide_row draft_rows[] = {
+    {{RECORD}, {TEXT("infoseek")}, {TEXT("/tmp/ok.html")}, ROBOTS_ANSWERED, 0, 3, 51, {TEXT("/tmp/ok.html")}, 0, 12},
+    {{RECORD}, {TEXT("webcrawler")}, {TEXT("/tmp/a.html")}, ROBOTS_ANSWERED, 1, 4, 74, {TEXT("/tmp")}, 0, 4},
+    {{RECORD}, {TEXT("webcrawler")}, {TEXT("/user/foo")}, ROBOTS_ANSWERED, 1, 5, 89, {TEXT("/user/foo")}, 0, 11},
+    {{RECORD}, {TEXT("webcrawler")}, {TEXT("/")}, ROBOTS_ANSWERED, NO_RULE(0, 0)},
+    {{RECORD}, {TEXT("a")}, {TEXT("/tmp")}, ROBOTS_ANSWERED, NO_RULE(0, 0)},
+    /* "the first match in file order decides", and "rules after the deciding one add nothing to the compared count" */
+    {{TEXT("user-agent: *\nallow: /\ndisallow: /x")}, {TEXT("a")}, {TEXT("/x")}, ROBOTS_ANSWERED, 0, 2, 21, {TEXT("/")}, 0, 1},
+    {{TEXT("user-agent: *\ndisallow: /x\nallow: /x")}, {TEXT("a")}, {TEXT("/x")}, ROBOTS_ANSWERED, 1, 2, 24, {TEXT("/x")}, 0, 2},
+    /* in a later group */
+    {{TEXT("user-agent: a\ndisallow: /b\nuser-agent: *\nallow: /\nuser-agent: A/2\nallow: /a")}, {TEXT("a")}, {TEXT("/ab")}, ROBOTS_ANSWERED, 0, 6, 73, {TEXT("/a")}, 0, 4},
+    /* "star and dollar in a pattern are plain octets, normalised as in a path" */
+    {{TEXT("user-agent: *\ndisallow: /*")}, {TEXT("a")}, {TEXT("/x")}, ROBOTS_ANSWERED, NO_RULE(0, 0)},
+    {{TEXT("user-agent: *\ndisallow: /*")}, {TEXT("a")}, {TEXT("/*y")}, ROBOTS_ANSWERED, 1, 2, 24, {TEXT("/*")}, 0, 4},
+    {{TEXT("user-agent: *\ndisallow: /x$")}, {TEXT("a")}, {TEXT("/x")}, ROBOTS_ANSWERED, NO_RULE(0, 0)},
+    {{TEXT("user-agent: *\ndisallow: /x$")}, {TEXT("a")}, {TEXT("/x$")}, ROBOTS_ANSWERED, 1, 2, 24, {TEXT("/x$")}, 0, 5},
+    {{TEXT("user-agent: *\ndisallow: /x$")}, {TEXT("a")}, {TEXT("/x%24y")}, ROBOTS_ANSWERED, 1, 2, 24, {TEXT("/x$")}, 0, 5},
+    /* *x is %2Ax: it is longer than /x, and differs from /xyz at once */
+    {{TEXT("user-agent: *\ndisallow: *x\nallow: /x")}, {TEXT("a")}, {TEXT("/x")}, ROBOTS_ANSWERED, 0, 3, 34, {TEXT("/x")}, 0, 2},
+    {{TEXT("user-agent: *\ndisallow: *x\nallow: /x")}, {TEXT("a")}, {TEXT("/xyz")}, ROBOTS_ANSWERED, 0, 3, 34, {TEXT("/x")}, 0, 3},
+    /* "empty patterns never match", and the unread count is of the whole file */
+    {{TEXT("user-agent: *\ndisallow:\nallow: x\ndisallow: /")}, {TEXT("a")}, {TEXT("/")}, ROBOTS_ANSWERED, 1, 4, 43, {TEXT("/")}, 1, 1},
+    {{TEXT("user-agent: *\nallow: /\ndisallow: x")}, {TEXT("a")}, {TEXT("/")}, ROBOTS_ANSWERED, 0, 2, 21, {TEXT("/")}, 1, 1},
+    /* "/robots.txt stays allowed as in 01" */
+    {{TEXT("user-agent: *\ndisallow: /\nallow: x")}, {TEXT("a")}, {TEXT("/%72obots.txt")}, ROBOTS_ANSWERED, NO_RULE(1, 0)},
+    /* the table of refusals */
+    {{TEXT("user-agent: *\nallow: /")}, {TEXT("")}, {TEXT("")}, ROBOTS_REFUSED_NAME, REFUSED},
+    {{TEXT("user-agent: *\nallow: /")}, {TEXT("a")}, {TEXT("")}, ROBOTS_REFUSED_PATH_LENGTH, REFUSED},
+    {{TEXT("user-agent: *\nallow: /")}, {TEXT("a")}, {TEXT("a#")}, ROBOTS_REFUSED_PATH_START, REFUSED},
+    {{TEXT("user-agent: *\nallow: /")}, {TEXT("a")}, {TEXT("/#")}, ROBOTS_REFUSED_PATH_OCTET, REFUSED},
+};
+
+/* No dialects, in however many of their bits they look like one. */
+static const size_t unknown_dialects[] = {
+    2, 3, 20, 255, 256, 257, 65535, 65536, 65537,
+#if SIZE_MAX > 0xFFFFFFFF
+    4294967296, 4294967297,
+#endif
+    SIZE_MAX / 2, SIZE_MAX / 2 + 1, SIZE_MAX / 2 + 2, SIZE_MAX - 1, SIZE_MAX,
+};
+
 static const struct line_row line_rows[] = {
     /* RFC 9309, figures 1 and 5, sections 2.2.4 and 5.1 */
     {{TEXT("user-agent: ExampleBot")}, ROBOTS_ANSWERED, ROBOTS_KIND_AGENT_READABLE, 12, 10},
@@ -318,10 +363,10 @@ static uint8_t *copy(struct octets text)
 }
 
 /* The arguments of each function of a decision. */
-#define QUESTION file, row.file.length, name, row.name.length, path, row.path.length
+#define QUESTION dialect, file, row.file.length, name, row.name.length, path, row.path.length
 
 /* A message shows the row's path. */
-static void check_decide(struct decide_row row)
+static void check_decide_in(size_t dialect, struct decide_row row)
 {
     uint8_t *file = copy(row.file);
     uint8_t *name = copy(row.name);
@@ -342,6 +387,22 @@ static void check_decide(struct decide_row row)
     free(path);
     free(name);
     free(file);
+}
+
+static void check_decide(struct decide_row row)
+{
+    check_decide_in(ROBOTS_RFC9309, row);
+}
+
+/* "Refusals: 20 for an unknown dialect, first of all." */
+static void check_unknown_dialects(struct decide_row row)
+{
+    struct decide_row refused = {row.file, row.name, row.path, ROBOTS_REFUSED_DIALECT, REFUSED};
+    size_t at;
+
+    for (at = 0; at < COUNT(unknown_dialects); at++) {
+        check_decide_in(unknown_dialects[at], refused);
+    }
 }
 
 static void check_line(struct line_row row)
@@ -432,6 +493,11 @@ static void check_rows(void)
 
     for (row = 0; row < COUNT(decide_rows); row++) {
         check_decide(decide_rows[row]);
+        check_unknown_dialects(decide_rows[row]);
+    }
+    for (row = 0; row < COUNT(draft_rows); row++) {
+        check_decide_in(ROBOTS_DRAFT1996, draft_rows[row]);
+        check_unknown_dialects(draft_rows[row]);
     }
     for (row = 0; row < COUNT(line_rows); row++) {
         check_line(line_rows[row]);
@@ -460,6 +526,16 @@ static void check_limits(void)
     check("limit", nothing, ROBOTS_NORMALISED_MOST, 6142);
 }
 
+/* "Add that dialect as a choice (1; 0 is the RFC's)", "20 for an unknown dialect" */
+static void check_numbers(void)
+{
+    struct octets nothing = {NULL, 0};
+
+    check("number", nothing, ROBOTS_RFC9309, 0);
+    check("number", nothing, ROBOTS_DRAFT1996, 1);
+    check("number", nothing, ROBOTS_REFUSED_DIALECT, 20);
+}
+
 /* "Just inside: a 512,000-octet file, a 64-octet name, a 2,048-octet path" */
 static void check_longest_question(void)
 {
@@ -471,6 +547,8 @@ static void check_longest_question(void)
     struct decide_row long_file = {{file, 512001}, {name, 65}, {path, 2049}, ROBOTS_REFUSED_LENGTH, REFUSED};
     struct decide_row long_name = {{file, 512000}, {name, 65}, {path, 2049}, ROBOTS_REFUSED_NAME, REFUSED};
     struct decide_row long_path = {{file, 512000}, {name, 64}, {path, 2049}, ROBOTS_REFUSED_PATH_LENGTH, REFUSED};
+    /* by the draft the pattern is far longer than the path */
+    struct decide_row draft = {{file, 512000}, {name, 64}, {path, 2048}, ROBOTS_ANSWERED, NO_RULE(0, 0)};
 
     memset(file, '*', ROBOTS_FILE_MOST + 1);
     memcpy(file, rules, sizeof rules - 1);
@@ -483,6 +561,9 @@ static void check_longest_question(void)
     check_decide(long_file);
     check_decide(long_name);
     check_decide(long_path);
+    check_decide_in(ROBOTS_DRAFT1996, draft);
+    check_decide_in(ROBOTS_DRAFT1996, long_file);
+    check_unknown_dialects(long_file);
     free(path);
     free(name);
     free(file);
@@ -571,23 +652,25 @@ static void check_null(void)
 }
 
 /* The same for a file, a name and a path. */
-static void check_null_decide(void)
+static void check_null_decide(size_t dialect)
 {
     struct octets nothing = {NULL, 0};
     struct octets slash = {TEXT("/")};
     const uint8_t *a = (const uint8_t *)"a";
 
-    check("refusal", nothing, robots_decide_refusal(NULL, 0, NULL, 0, NULL, 0), ROBOTS_REFUSED_NAME);
-    check("disallow", nothing, robots_decide_disallow(NULL, 0, NULL, 0, NULL, 0), 1);
-    check("refusal", nothing, robots_decide_refusal(NULL, 0, a, 1, NULL, 0), ROBOTS_REFUSED_PATH_LENGTH);
-    check("disallow", nothing, robots_decide_disallow(NULL, 0, a, 1, NULL, 0), 1);
-    check("refusal", slash, robots_decide_refusal(NULL, 0, a, 1, slash.start, 1), ROBOTS_ANSWERED);
-    check("disallow", slash, robots_decide_disallow(NULL, 0, a, 1, slash.start, 1), 0);
-    check("deciding line", slash, robots_decide_line(NULL, 0, a, 1, slash.start, 1), 0);
-    check("deciding place", slash, robots_decide_place(NULL, 0, a, 1, slash.start, 1), 0);
-    check("deciding length", slash, robots_decide_length(NULL, 0, a, 1, slash.start, 1), 0);
-    check("unread", slash, robots_decide_unread(NULL, 0, a, 1, slash.start, 1), 0);
-    check("compared", slash, robots_decide_compared(NULL, 0, a, 1, slash.start, 1), 0);
+    check("refusal", nothing, robots_decide_refusal(dialect, NULL, 0, NULL, 0, NULL, 0), ROBOTS_REFUSED_NAME);
+    check("disallow", nothing, robots_decide_disallow(dialect, NULL, 0, NULL, 0, NULL, 0), 1);
+    check("refusal", nothing, robots_decide_refusal(dialect, NULL, 0, a, 1, NULL, 0), ROBOTS_REFUSED_PATH_LENGTH);
+    check("disallow", nothing, robots_decide_disallow(dialect, NULL, 0, a, 1, NULL, 0), 1);
+    check("refusal", nothing, robots_decide_refusal(20, NULL, 0, NULL, 0, NULL, 0), ROBOTS_REFUSED_DIALECT);
+    check("disallow", nothing, robots_decide_disallow(20, NULL, 0, NULL, 0, NULL, 0), 1);
+    check("refusal", slash, robots_decide_refusal(dialect, NULL, 0, a, 1, slash.start, 1), ROBOTS_ANSWERED);
+    check("disallow", slash, robots_decide_disallow(dialect, NULL, 0, a, 1, slash.start, 1), 0);
+    check("deciding line", slash, robots_decide_line(dialect, NULL, 0, a, 1, slash.start, 1), 0);
+    check("deciding place", slash, robots_decide_place(dialect, NULL, 0, a, 1, slash.start, 1), 0);
+    check("deciding length", slash, robots_decide_length(dialect, NULL, 0, a, 1, slash.start, 1), 0);
+    check("unread", slash, robots_decide_unread(dialect, NULL, 0, a, 1, slash.start, 1), 0);
+    check("compared", slash, robots_decide_compared(dialect, NULL, 0, a, 1, slash.start, 1), 0);
 }
 
 /* The same for a pattern and a path. */
@@ -615,12 +698,14 @@ int main(int count, char **words)
     }
     check_rows();
     check_limits();
+    check_numbers();
     check_longest_question();
     check_longest_line();
     check_longest_path();
     check_longest_pattern();
     check_null();
-    check_null_decide();
+    check_null_decide(ROBOTS_RFC9309);
+    check_null_decide(ROBOTS_DRAFT1996);
     check_null_match();
     if (failed > 0) {
         printf("link test: %u checks failed, %u passed\n", failed, passed);

@@ -1,6 +1,7 @@
 #!/usr/bin/env python3
-"""Holds the C header, the Rust declarations and the Python binding to the exported functions of crates/robots, and the
-refusals of header, bindings, evaluator and scripts to the table in crates/protocol.
+"""Holds the C header, the Rust declarations and the Python binding to the exported functions of crates/robots, the
+refusals of header, bindings, evaluator and scripts to the table in crates/protocol, and the dialects of header and
+bindings to each other.
 
     python3 conformance/gate/interface.py [FOLDER]
 
@@ -50,11 +51,17 @@ ROWS = {
     "inputTooLong": "INPUT",
     "badPattern": "PATTERN",
     "severalLines": "LINES",
+    "unknownDialect": "DIALECT",
 }
 
 # rows that the program never gives, so that the scripts have no sentence for them: a file that is too long is an input
-# that is too long, and no buffer, pattern or single line is given to it
-NOT_OF_THE_PROGRAM = {"tooLong", "noRoom", "badPattern", "severalLines"}
+# that is too long, and no buffer, pattern, single line or dialect is given to it
+NOT_OF_THE_PROGRAM = {"tooLong", "noRoom", "badPattern", "severalLines", "unknownDialect"}
+
+# document 02, M-113: the dialects by the header's names without ROBOTS_; the functions of a decision take one first
+DIALECTS = {"RFC9309": 0, "DRAFT1996": 1}
+DECISION = "robots_decide_"
+DIALECT = ("dialect", "usize")
 
 
 class Mismatch(Exception):
@@ -144,6 +151,8 @@ def functions(read):
                 yield f"{SCRIPT}: SHAPES lacks '{kind}', which {name} in {EXPORTS} takes as {argument}"
         if result != "usize":
             yield f"{EXPORTS}: {name} answers {result}, and an exported function answers a usize"
+        if (DIALECT in pairs) != name.startswith(DECISION) or DIALECT in pairs[1:]:
+            yield f"{EXPORTS}: {name}: 'dialect: usize' is the first argument of each {DECISION}.. and of no other"
     known = {name: pairs for name, (pairs, _) in source.items() if all(kind in SHAPES for _, kind in pairs)}
     for place, language, declared, size in [
         (HEADER, C, declared_in_c(read(HEADER)), "size_t"),
@@ -196,11 +205,11 @@ def enumerated(text, pattern, place):
     return {name: int(number) for name, number in re.findall(r"(\w+)\s*=\s*(\d+)", body[1])}
 
 
-def python_refusals(text):
+def python_enum(text, name):
     for node in ast.parse(text).body:
-        if isinstance(node, ast.ClassDef) and node.name == "Refusal":
+        if isinstance(node, ast.ClassDef) and node.name == name:
             return {part.targets[0].id: part.value.value for part in node.body if isinstance(part, ast.Assign)}
-    raise Mismatch(f"{PYTHON}: there is no class Refusal")
+    raise Mismatch(f"{PYTHON}: there is no class {name}")
 
 
 def snake(camel):
@@ -228,7 +237,7 @@ def named_refusals(read):
     listed = re.search(r"const ALL: [^=]*= \[(.*?)\];", rust, flags=re.DOTALL)
     every = re.findall(r"Refusal::(\w+)", listed[1]) if listed else []
     yield f"{RUST_REFUSALS}, ALL", {"ANSWERED": 0, **{snake(name): variants.get(name) for name in every}}
-    yield PYTHON, python_refusals(read(PYTHON))
+    yield PYTHON, python_enum(read(PYTHON), "Refusal")
 
 
 def numbered_refusals(read, rows):
@@ -264,12 +273,30 @@ def refusals(read):
             yield f"{place}: has {number}, which is no refusal of {TABLE} that belongs there"
 
 
+# ---- the dialects, each a number and a name
+
+
+def named_dialects(read):
+    header = enumerated(read(HEADER), "enum robots_dialect", HEADER)
+    yield HEADER, {name.removeprefix("ROBOTS_"): number for name, number in header.items()}
+    rust = enumerated(read(RUST_REFUSALS), "enum Dialect", RUST_REFUSALS)
+    yield RUST_REFUSALS, {snake(name): number for name, number in rust.items()}
+    yield PYTHON, python_enum(read(PYTHON), "Dialect")
+
+
+def dialects(read):
+    """Yields a line for each place whose dialects aren't those of document 02."""
+    for place, given in named_dialects(read):
+        if given != DIALECTS:
+            yield f"{place}: its dialects are {given}, where {SCRIPT} has {DIALECTS}"
+
+
 def mismatches(folder):
     def read(place):
         return (pathlib.Path(folder) / place).read_text(encoding="utf-8")
 
     lines = []
-    for check in [functions, refusals]:
+    for check in [functions, refusals, dialects]:
         try:
             lines.extend(check(read))
         except Mismatch as mismatch:

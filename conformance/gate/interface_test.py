@@ -14,6 +14,8 @@ ROOT = pathlib.Path(__file__).resolve().parents[2]
 # a row more, in front of the lists of rows
 TOO_DEAR = "abbrev pub tooDear : List ℕ → Row\ntooDear l = 10 when any lineEnd l\n\nabbrev pub pathRows"
 LINE_KIND = "fn robots_line_kind(_: Start, _: usize) -> usize;"
+# a function whose arguments stand on lines of their own
+UNREAD = "robots_decide_unread(\n    dialect: usize,\n    file: &[u8],\n    name: &[u8],\n    path: &[u8],\n) -> usize"
 
 # a file, what stands there, what is put in its place, and what some line has to say
 BREAKS = [
@@ -69,13 +71,13 @@ BREAKS = [
     (TABLE, "abbrev pub pathRows", TOO_DEAR, "ROWS lacks tooDear"),
     (TABLE, "abbrev pub pathRows", TOO_DEAR, f"{EVALUATOR}: lacks the refusal 10"),
     (TABLE, "abbrev pub pathRows", TOO_DEAR, f"{ASKING}, the sentences: lacks the refusal 10"),
-    (HEADER, "ROBOTS_REFUSED_LINES = 9 ", "ROBOTS_REFUSED_LINES = 10 ", f"{HEADER}: LINES is 10, and 9 in"),
+    (HEADER, "ROBOTS_REFUSED_LINES = 9, ", "ROBOTS_REFUSED_LINES = 10, ", f"{HEADER}: LINES is 10, and 9 in"),
     (HEADER, "ROBOTS_REFUSED_ROOM = 6, ", "", f"{HEADER}: lacks ROOM"),
     (HEADER, "ROBOTS_ANSWERED = 0, ", "", f"{HEADER}: lacks ANSWERED"),
     (
         HEADER,
-        "ROBOTS_REFUSED_LINES = 9 ",
-        "ROBOTS_REFUSED_LINES = 9, ROBOTS_REFUSED_DEAR = 10 ",
+        "ROBOTS_REFUSED_LINES = 9, ",
+        "ROBOTS_REFUSED_LINES = 9, ROBOTS_REFUSED_DEAR = 10, ",
         f"{TABLE}: lacks a row for DEAR",
     ),
     (RUST_REFUSALS, "    PathStart = 4,\n", "", f"{RUST_REFUSALS}: lacks PATH_START"),
@@ -85,6 +87,36 @@ BREAKS = [
     (PYTHON, "    ROOM = 6\n", "", f"{PYTHON}: lacks ROOM"),
     (PYTHON, "    ROOM = 6\n", "    ROOM = 10\n", f"{PYTHON}: ROOM is 10"),
     (EVALUATOR, "    Room = 6,\n", "", f"{EVALUATOR}: lacks the refusal 6"),
+    (TABLE, " = 20 when ", " = 21 when ", f"{HEADER}: DIALECT is 20, and 21 in"),
+    (HEADER, "ROBOTS_REFUSED_DIALECT = 20 ", "ROBOTS_REFUSED_DIALECT = 10 ", f"{HEADER}: DIALECT is 10, and 20 in"),
+    (RUST_REFUSALS, "        Refusal::Dialect,\n", "", "ALL: lacks DIALECT"),
+    (PYTHON, "    DIALECT = 20\n", "", f"{PYTHON}: lacks DIALECT"),
+    (EVALUATOR, "    Dialect = 20,\n", "", f"{EVALUATOR}: lacks the refusal 20"),
+    (EXPORTS, "robots_decide_line(dialect: usize, ", "robots_decide_line(", f"{HEADER}: robots_decide_line takes"),
+    (EXPORTS, "robots_decide_line(dialect: usize, ", "robots_decide_line(", f"{EXPORTS}: robots_decide_line: 'dialect"),
+    (EXPORTS, "robots_decide_line(dialect: usize, ", "robots_decide_line(dialect: &[u8], ", f"{RUST}: robots_decide_"),
+    (EXPORTS, "robots_decide_line(dialect: usize, ", "robots_decide_line(sort: usize, ", "calls 'dialect' what"),
+    (
+        EXPORTS,
+        "robots_decide_line(dialect: usize, file: &[u8], ",
+        "robots_decide_line(file: &[u8], dialect: usize, ",
+        f"{PYTHON}: robots_decide_line takes",
+    ),
+    (EXPORTS, UNREAD, UNREAD.replace("    dialect: usize,\n", ""), f"{HEADER}: robots_decide_unread takes"),
+    (EXPORTS, UNREAD, UNREAD.replace("path: &[u8]", "path: usize"), f"{RUST}: robots_decide_unread takes"),
+    (EXPORTS, UNREAD, UNREAD.replace("name", "agent"), "robots_decide_unread calls 'name' what"),
+    (EXPORTS, UNREAD, UNREAD.replace("-> usize", "-> bool"), "robots_decide_unread answers bool"),
+    (EXPORTS, "robots_line_kind(line: &[u8])", "robots_line_kind(dialect: usize, line: &[u8])", "of no other"),
+    (HEADER, "robots_decide_line(size_t dialect,", "robots_decide_line(uint32_t dialect,", "line takes (uint32_t"),
+    (HEADER, "robots_decide_line(size_t dialect,", "robots_decide_line(size_t sort,", "calls 'sort' what"),
+    (HEADER, "robots_decide_line(size_t dialect,", "robots_decide_line(", "line takes (const uint8_t *"),
+    (RUST, "robots_decide_line(\n        dialect: usize,", "robots_decide_line(\n        dialect: u8,", "takes (u8"),
+    (PYTHON, "_DECISION = (ctypes.c_size_t,)", "_DECISION = (ctypes.c_uint8,)", f"{PYTHON}: robots_decide_line takes"),
+    (HEADER, "ROBOTS_DRAFT1996 = 1 ", "ROBOTS_DRAFT1996 = 2 ", f"{HEADER}: its dialects are"),
+    (HEADER, "    ROBOTS_RFC9309 = 0, ", "", f"{HEADER}: its dialects are"),
+    (HEADER, "enum robots_dialect {", "enum robots_choice {", f"{HEADER}: there is no enum robots_dialect"),
+    (RUST_REFUSALS, "    Draft1996 = 1,\n", "    Draft1996 = 2,\n", f"{RUST_REFUSALS}: its dialects are"),
+    (PYTHON, "    DRAFT1996 = 1 ", "    DRAFT1997 = 1 ", f"{PYTHON}: its dialects are"),
     (ASKING, "'refused 4') echo", "'refused four') echo", f"{ASKING}, the sentences: lacks the refusal 4"),
     (ASKING, "'refused 4') echo", "'refused 6') echo", f"{ASKING}, the sentences: has 6"),
     (

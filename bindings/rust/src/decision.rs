@@ -1,4 +1,4 @@
-//! A whole decision in one call.
+//! A whole decision in one call, and the dialects.
 
 use crate::exported::{
     decide_compared, decide_disallow, decide_length, decide_line, decide_place, decide_refusal,
@@ -6,6 +6,17 @@ use crate::exported::{
 };
 use std::error::Error;
 use std::fmt;
+
+/// Whose rules decide, with the number that the functions take.
+#[derive(Clone, Copy, Debug, Default, PartialEq, Eq)]
+pub enum Dialect {
+    /// The heaviest match decides.
+    #[default]
+    Rfc9309 = 0,
+    /// The first match in file order decides, and "*" and "$" stand for
+    /// themselves.
+    Draft1996 = 1,
+}
 
 /// What is decided for a file, a name and a path.
 #[derive(Clone, Copy, Debug, PartialEq, Eq)]
@@ -36,10 +47,12 @@ pub enum Refusal {
     Input = 7,
     Pattern = 8,
     Lines = 9,
+    /// No dialect of [`Dialect`] is ever refused: only a number can be.
+    Dialect = 20,
 }
 
 impl Refusal {
-    const ALL: [Refusal; 9] = [
+    const ALL: [Refusal; 10] = [
         Refusal::Length,
         Refusal::Name,
         Refusal::PathLength,
@@ -49,6 +62,7 @@ impl Refusal {
         Refusal::Input,
         Refusal::Pattern,
         Refusal::Lines,
+        Refusal::Dialect,
     ];
 
     /// The refusal with this number. There is none for 0, which is
@@ -68,22 +82,33 @@ impl fmt::Display for Refusal {
 
 impl Error for Refusal {}
 
-/// May the crawler `name` fetch `path`, by the rules in `file`? A refused path
-/// is to be left alone, as a disallowed one is.
+/// May the crawler `name` fetch `path`, by the rules in `file`? The RFC's
+/// dialect decides. A refused path is to be left alone, as a disallowed one is.
 ///
 /// It asks the library seven times. Who wants to know no more than allow or
 /// disallow asks [`decide_disallow`], which is 1 for a refused question too.
 pub fn decide(file: &[u8], name: &[u8], path: &[u8]) -> Result<Decision, Refusal> {
-    let number = decide_refusal(file, name, path);
+    decide_in(Dialect::Rfc9309, file, name, path)
+}
+
+/// The same in a dialect that is chosen.
+pub fn decide_in(
+    dialect: Dialect,
+    file: &[u8],
+    name: &[u8],
+    path: &[u8],
+) -> Result<Decision, Refusal> {
+    let dialect = dialect as usize;
+    let number = decide_refusal(dialect, file, name, path);
     if number != 0 {
         return Err(Refusal::from_number(number).expect("each number has its refusal"));
     }
     Ok(Decision {
-        disallow: decide_disallow(file, name, path) != 0,
-        line: decide_line(file, name, path),
-        place: decide_place(file, name, path),
-        length: decide_length(file, name, path),
-        unread: decide_unread(file, name, path),
-        compared: decide_compared(file, name, path),
+        disallow: decide_disallow(dialect, file, name, path) != 0,
+        line: decide_line(dialect, file, name, path),
+        place: decide_place(dialect, file, name, path),
+        length: decide_length(dialect, file, name, path),
+        unread: decide_unread(dialect, file, name, path),
+        compared: decide_compared(dialect, file, name, path),
     })
 }

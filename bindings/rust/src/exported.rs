@@ -6,18 +6,74 @@ type Start = *const u8;
 /// The signatures of a line's functions, of a match's and of a decision's.
 type OfLine = unsafe extern "C" fn(Start, usize) -> usize;
 type OfMatch = unsafe extern "C" fn(Start, usize, Start, usize) -> usize;
-type OfDecision = unsafe extern "C" fn(Start, usize, Start, usize, Start, usize) -> usize;
+type OfDecision = unsafe extern "C" fn(usize, Start, usize, Start, usize, Start, usize) -> usize;
 
 #[link(name = "robots", kind = "static")]
 extern "C" {
-    // file, name and path
-    fn robots_decide_refusal(_: Start, _: usize, _: Start, _: usize, _: Start, _: usize) -> usize;
-    fn robots_decide_disallow(_: Start, _: usize, _: Start, _: usize, _: Start, _: usize) -> usize;
-    fn robots_decide_line(_: Start, _: usize, _: Start, _: usize, _: Start, _: usize) -> usize;
-    fn robots_decide_place(_: Start, _: usize, _: Start, _: usize, _: Start, _: usize) -> usize;
-    fn robots_decide_length(_: Start, _: usize, _: Start, _: usize, _: Start, _: usize) -> usize;
-    fn robots_decide_unread(_: Start, _: usize, _: Start, _: usize, _: Start, _: usize) -> usize;
-    fn robots_decide_compared(_: Start, _: usize, _: Start, _: usize, _: Start, _: usize) -> usize;
+    // behind the dialect: file, name and path
+    fn robots_decide_refusal(
+        dialect: usize,
+        _: Start,
+        _: usize,
+        _: Start,
+        _: usize,
+        _: Start,
+        _: usize,
+    ) -> usize;
+    fn robots_decide_disallow(
+        dialect: usize,
+        _: Start,
+        _: usize,
+        _: Start,
+        _: usize,
+        _: Start,
+        _: usize,
+    ) -> usize;
+    fn robots_decide_line(
+        dialect: usize,
+        _: Start,
+        _: usize,
+        _: Start,
+        _: usize,
+        _: Start,
+        _: usize,
+    ) -> usize;
+    fn robots_decide_place(
+        dialect: usize,
+        _: Start,
+        _: usize,
+        _: Start,
+        _: usize,
+        _: Start,
+        _: usize,
+    ) -> usize;
+    fn robots_decide_length(
+        dialect: usize,
+        _: Start,
+        _: usize,
+        _: Start,
+        _: usize,
+        _: Start,
+        _: usize,
+    ) -> usize;
+    fn robots_decide_unread(
+        dialect: usize,
+        _: Start,
+        _: usize,
+        _: Start,
+        _: usize,
+        _: Start,
+        _: usize,
+    ) -> usize;
+    fn robots_decide_compared(
+        dialect: usize,
+        _: Start,
+        _: usize,
+        _: Start,
+        _: usize,
+        _: Start,
+        _: usize,
+    ) -> usize;
     // pattern and path
     fn robots_match_refusal(_: Start, _: usize, _: Start, _: usize) -> usize;
     fn robots_match_found(_: Start, _: usize, _: Start, _: usize) -> usize;
@@ -33,12 +89,22 @@ extern "C" {
 }
 
 /// Asks for one number of a decision.
-fn of_decision(number: OfDecision, file: &[u8], name: &[u8], path: &[u8]) -> usize {
+fn of_decision(number: OfDecision, dialect: usize, file: &[u8], name: &[u8], path: &[u8]) -> usize {
     let (file, file_length) = (file.as_ptr(), file.len());
     let (name, name_length) = (name.as_ptr(), name.len());
     let (path, path_length) = (path.as_ptr(), path.len());
     // SAFETY: the pointers and lengths are those of slices.
-    unsafe { number(file, file_length, name, name_length, path, path_length) }
+    unsafe {
+        number(
+            dialect,
+            file,
+            file_length,
+            name,
+            name_length,
+            path,
+            path_length,
+        )
+    }
 }
 
 /// Asks for one number of a match.
@@ -53,39 +119,41 @@ fn of_line(number: OfLine, line: &[u8]) -> usize {
     unsafe { number(line.as_ptr(), line.len()) }
 }
 
-/// The refusal of a file, a name and a path; 0 if answered.
-pub fn decide_refusal(file: &[u8], name: &[u8], path: &[u8]) -> usize {
-    of_decision(robots_decide_refusal, file, name, path)
+/// The refusal of a dialect, a file, a name and a path; 0 if answered. The
+/// dialect is a number as C gives it, and any but [`Dialect`](crate::Dialect)'s
+/// is refused, here and in the six below.
+pub fn decide_refusal(dialect: usize, file: &[u8], name: &[u8], path: &[u8]) -> usize {
+    of_decision(robots_decide_refusal, dialect, file, name, path)
 }
 
 /// 1 if the path is disallowed, 0 if it is allowed; 1 if refused.
-pub fn decide_disallow(file: &[u8], name: &[u8], path: &[u8]) -> usize {
-    of_decision(robots_decide_disallow, file, name, path)
+pub fn decide_disallow(dialect: usize, file: &[u8], name: &[u8], path: &[u8]) -> usize {
+    of_decision(robots_decide_disallow, dialect, file, name, path)
 }
 
 /// The deciding line, from 1; 0 if no rule decided.
-pub fn decide_line(file: &[u8], name: &[u8], path: &[u8]) -> usize {
-    of_decision(robots_decide_line, file, name, path)
+pub fn decide_line(dialect: usize, file: &[u8], name: &[u8], path: &[u8]) -> usize {
+    of_decision(robots_decide_line, dialect, file, name, path)
 }
 
 /// The place in the file of the deciding rule's raw pattern.
-pub fn decide_place(file: &[u8], name: &[u8], path: &[u8]) -> usize {
-    of_decision(robots_decide_place, file, name, path)
+pub fn decide_place(dialect: usize, file: &[u8], name: &[u8], path: &[u8]) -> usize {
+    of_decision(robots_decide_place, dialect, file, name, path)
 }
 
 /// The length of the deciding rule's raw pattern.
-pub fn decide_length(file: &[u8], name: &[u8], path: &[u8]) -> usize {
-    of_decision(robots_decide_length, file, name, path)
+pub fn decide_length(dialect: usize, file: &[u8], name: &[u8], path: &[u8]) -> usize {
+    of_decision(robots_decide_length, dialect, file, name, path)
 }
 
 /// The unreadable agent and rule lines in the whole file; 0 if refused.
-pub fn decide_unread(file: &[u8], name: &[u8], path: &[u8]) -> usize {
-    of_decision(robots_decide_unread, file, name, path)
+pub fn decide_unread(dialect: usize, file: &[u8], name: &[u8], path: &[u8]) -> usize {
+    of_decision(robots_decide_unread, dialect, file, name, path)
 }
 
 /// The pairs of octets that the walks compare; 0 if refused.
-pub fn decide_compared(file: &[u8], name: &[u8], path: &[u8]) -> usize {
-    of_decision(robots_decide_compared, file, name, path)
+pub fn decide_compared(dialect: usize, file: &[u8], name: &[u8], path: &[u8]) -> usize {
+    of_decision(robots_decide_compared, dialect, file, name, path)
 }
 
 /// The refusal of a pattern and a path; 0 if answered.

@@ -2,7 +2,9 @@
 
 use std::hint::black_box;
 
-use crate::loaded::{self, Loaded, LINKED};
+use evaluator::RFC9309;
+
+use crate::loaded::{self, Loaded, Signature, LINKED};
 use crate::measure::{measure_beside, median, TURNS};
 use crate::{deciding, passes, sites, stop};
 
@@ -21,10 +23,16 @@ struct Row<'a> {
     pass: &'a dyn Fn(&Loaded) -> usize,
 }
 
-/// Prints a row for each input: the build in this archive, and the one that
-/// this program is linked with.
-pub fn run(older: &str) {
-    let wanted = BEFORE_CODE.map(|before| [(older, before), (LINKED, before)]);
+/// Prints a row for each input: the build in this archive, whose functions of a
+/// decision take a dialect or don't, and the one that this program is linked
+/// with.
+pub fn run(older: &str, signature: Signature) {
+    let wanted = BEFORE_CODE.map(|before| {
+        [
+            (older, before, signature),
+            (LINKED, before, Signature::WithDialect),
+        ]
+    });
     let builds = loaded::load(wanted.as_flattened());
     println!(
         "ns for each call, mean over {} places of the code, median of {TURNS} at each",
@@ -77,8 +85,8 @@ fn mean_of_medians(times: &[Vec<[f64; 2]>], of: fn(&[f64; 2]) -> f64) -> f64 {
 }
 
 /// Makes one pass of one row over the build in this archive.
-pub fn once(archive: &str, name: &str) {
-    let builds = loaded::load(&[(archive, 0)]);
+pub fn once(archive: &str, signature: Signature, name: &str) {
+    let builds = loaded::load(&[(archive, 0, signature)]);
     let mut names = Vec::new();
     each_row(&mut |row| {
         names.push(row.name);
@@ -115,7 +123,7 @@ fn each_row(run: &mut dyn FnMut(&Row)) {
             calls: asked.len(),
             pass: &|build| {
                 deciding::sum(&asked, |name, path| {
-                    build.decide_disallow(black_box(&site.file), name, path)
+                    build.decide_disallow(RFC9309, black_box(&site.file), name, path)
                 })
             },
         });

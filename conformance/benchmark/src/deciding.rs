@@ -2,6 +2,8 @@
 
 use std::hint::black_box;
 
+use evaluator::RFC9309;
+
 use crate::measure::{measure, Medians, Turns};
 use crate::passes::count_line_feeds;
 use crate::same;
@@ -39,7 +41,7 @@ pub fn run() {
 fn run_site(site: &Site) {
     let questions = questions(site);
     for (name, path) in &questions {
-        same::decision(site.name, &site.file, name, path);
+        same::decision(site.name, RFC9309, &site.file, name, path);
     }
     let asked = asked(site);
     print_row(site, &questions, asked.len(), &medians(site, &asked));
@@ -72,12 +74,12 @@ fn medians(site: &Site, asked: &[Question]) -> Medians<3> {
         answering: [
             &|| {
                 sum(asked, |name, path| {
-                    library::decide_disallow(file(), name, path)
+                    library::decide_disallow(RFC9309, file(), name, path)
                 })
             },
             &|| {
                 sum(asked, |name, path| {
-                    plain::decide(file(), name, path).disallow
+                    plain::decide(RFC9309, file(), name, path).disallow
                 })
             },
             &|| {

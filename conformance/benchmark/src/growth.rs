@@ -1,5 +1,7 @@
 //! What grows: the file, the rules that apply, the path, and the stars.
 
+use evaluator::RFC9309;
+
 use crate::inputs::{mixed_line, Numbers};
 use crate::rows::{Asked, Row};
 
@@ -63,7 +65,7 @@ pub fn stars() -> Vec<Row> {
 fn row(file: Vec<u8>, path: &str, units: usize) -> Row {
     Row {
         name: units.to_string(),
-        asked: Asked::Decide(file, vec![(b"another-bot".to_vec(), path.into())]),
+        asked: Asked::Decide(RFC9309, file, vec![(b"another-bot".to_vec(), path.into())]),
         units: units.max(1),
     }
 }

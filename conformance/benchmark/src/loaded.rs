@@ -10,6 +10,8 @@ use std::os::unix::ffi::OsStrExt;
 use std::path::{Path, PathBuf};
 use std::process::{self, Command};
 
+use evaluator::RFC9309;
+
 use crate::stop;
 
 /// The archive that this program is linked with.
@@ -34,18 +36,35 @@ type Start = *const u8;
 type OfLine = unsafe extern "C" fn(Start, usize) -> usize;
 type OfPath = unsafe extern "C" fn(Start, usize, *mut u8, usize) -> usize;
 type OfMatch = unsafe extern "C" fn(Start, usize, Start, usize) -> usize;
-type OfDecision = unsafe extern "C" fn(Start, usize, Start, usize, Start, usize) -> usize;
+type OfDecision = unsafe extern "C" fn(usize, Start, usize, Start, usize, Start, usize) -> usize;
+/// Before 0.2.0.
+type OfOldDecision = unsafe extern "C" fn(Start, usize, Start, usize, Start, usize) -> usize;
 
 /// A loaded object.
 pub type Handle = *mut c_void;
+
+/// Whether the functions of a decision take a dialect. No archive tells it.
+#[derive(Clone, Copy)]
+pub enum Signature {
+    WithDialect,
+    /// Before 0.2.0.
+    WithoutDialect,
+}
+
+/// A function of a decision.
+#[derive(Clone, Copy)]
+enum Deciding {
+    WithDialect(OfDecision),
+    WithoutDialect(OfOldDecision),
+}
 
 /// The library's functions that are measured.
 pub struct Loaded {
     line_kind: OfLine,
     normalise: OfPath,
     match_found: OfMatch,
-    decide_disallow: OfDecision,
-    decide_unread: OfDecision,
+    decide_disallow: Deciding,
+    decide_unread: Deciding,
 }
 
 impl Loaded {
@@ -66,30 +85,37 @@ impl Loaded {
         unsafe { (self.match_found)(start, length, path.as_ptr(), path.len()) }
     }
 
-    pub fn decide_disallow(&self, file: &[u8], name: &[u8], path: &[u8]) -> usize {
-        decided(self.decide_disallow, file, name, path)
+    pub fn decide_disallow(&self, dialect: usize, file: &[u8], name: &[u8], path: &[u8]) -> usize {
+        decided(self.decide_disallow, dialect, file, name, path)
     }
 
-    pub fn decide_unread(&self, file: &[u8], name: &[u8], path: &[u8]) -> usize {
-        decided(self.decide_unread, file, name, path)
+    pub fn decide_unread(&self, dialect: usize, file: &[u8], name: &[u8], path: &[u8]) -> usize {
+        decided(self.decide_unread, dialect, file, name, path)
     }
 }
 
-fn decided(number: OfDecision, file: &[u8], name: &[u8], path: &[u8]) -> usize {
-    let (file, file_length) = (file.as_ptr(), file.len());
-    let (name, name_length) = (name.as_ptr(), name.len());
-    let (path, path_length) = (path.as_ptr(), path.len());
-    // SAFETY: the pointers and lengths are those of slices.
-    unsafe { number(file, file_length, name, name_length, path, path_length) }
+/// A build without dialects is asked in the RFC's only.
+fn decided(number: Deciding, dialect: usize, file: &[u8], name: &[u8], path: &[u8]) -> usize {
+    let (file, f) = (file.as_ptr(), file.len());
+    let (name, n) = (name.as_ptr(), name.len());
+    let (path, p) = (path.as_ptr(), path.len());
+    match number {
+        // SAFETY: the pointers and lengths are those of slices.
+        Deciding::WithDialect(number) => unsafe { number(dialect, file, f, name, n, path, p) },
+        Deciding::WithoutDialect(number) => {
+            assert_eq!(dialect, RFC9309, "the older build has no dialects");
+            // SAFETY: the same.
+            unsafe { number(file, f, name, n, path, p) }
+        }
+    }
 }
 
 /// Loads each archive of the library, with so many octets before its code.
-pub fn load(wanted: &[(&str, usize)]) -> Vec<Loaded> {
-    let handles = open(wanted);
-    let archives = wanted.iter().map(|(archive, _)| archive);
-    let builds = handles.into_iter().zip(archives);
+pub fn load(wanted: &[(&str, usize, Signature)]) -> Vec<Loaded> {
+    let places: Vec<(&str, usize)> = wanted.iter().map(|one| (one.0, one.1)).collect();
+    let builds = open(&places).into_iter().zip(wanted);
     builds
-        .map(|(handle, archive)| library(handle, archive))
+        .map(|(handle, (archive, _, signature))| library(handle, archive, *signature))
         .collect()
 }
 
@@ -122,15 +148,23 @@ fn open_one(place: &Path, archive: &str, before: usize) -> Result<Handle, String
 }
 
 /// The functions of a library that is loaded.
-pub fn library(handle: Handle, archive: &str) -> Loaded {
+pub fn library(handle: Handle, archive: &str, signature: Signature) -> Loaded {
+    let deciding = |name: &CStr| match signature {
+        // SAFETY: the object is loaded, and include/robots.h gives the functions this type.
+        Signature::WithDialect => Deciding::WithDialect(unsafe { function(handle, name, archive) }),
+        // SAFETY: before 0.2.0 it gave them this one.
+        Signature::WithoutDialect => {
+            Deciding::WithoutDialect(unsafe { function(handle, name, archive) })
+        }
+    };
     // SAFETY: the object is loaded, and include/robots.h gives the functions these types.
     unsafe {
         Loaded {
             line_kind: function(handle, c"robots_line_kind", archive),
             normalise: function(handle, c"robots_normalise", archive),
             match_found: function(handle, c"robots_match_found", archive),
-            decide_disallow: function(handle, c"robots_decide_disallow", archive),
-            decide_unread: function(handle, c"robots_decide_unread", archive),
+            decide_disallow: deciding(c"robots_decide_disallow"),
+            decide_unread: deciding(c"robots_decide_unread"),
         }
     }
 }

@@ -5,7 +5,7 @@ use plain::{Decision, Matched, Normalised, ARCHIVE};
 use crate::loaded::{function, Handle};
 
 type Start = *const u8;
-type OfDecision = unsafe extern "C" fn(Start, usize, Start, usize, Start, usize) -> Decision;
+type OfDecision = unsafe extern "C" fn(usize, Start, usize, Start, usize, Start, usize) -> Decision;
 type OfMatch = unsafe extern "C" fn(Start, usize, Start, usize) -> Matched;
 type OfPath = unsafe extern "C" fn(Start, usize, *mut u8, usize) -> Normalised;
 
@@ -16,12 +16,13 @@ pub struct LoadedPlain {
 }
 
 impl LoadedPlain {
-    pub fn decide(&self, file: &[u8], name: &[u8], path: &[u8]) -> Decision {
+    pub fn decide(&self, dialect: usize, file: &[u8], name: &[u8], path: &[u8]) -> Decision {
         let (file, file_length) = (file.as_ptr(), file.len());
         let (name, name_length) = (name.as_ptr(), name.len());
         // SAFETY: the pointers and lengths are those of slices.
         unsafe {
             (self.decide)(
+                dialect,
                 file,
                 file_length,
                 name,

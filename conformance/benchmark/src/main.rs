@@ -27,13 +27,15 @@ mod table;
 use std::process::exit;
 
 use inputs::Input;
+use loaded::Signature::{WithDialect, WithoutDialect};
 use measure::Medians;
 use passes::Passes;
 
 const USAGE: &str =
     "cargo run --release --manifest-path conformance/Cargo.toml -p benchmark --offline --locked";
 const MODES: &str = "alone or with '-- table', '-- deciding', '-- beside OLD/librobots.a' or \
-     '-- once ARCHIVE ROW' behind it";
+     '-- once ARCHIVE ROW' behind it, and with 'without-dialect' behind that if the archive is \
+     from before 0.2.0";
 
 fn main() {
     let arguments: Vec<String> = std::env::args().skip(1).collect();
@@ -48,8 +50,10 @@ fn main() {
         ["start", number] => starts::start(number_of(number), &sections::all()),
         ["count"] => counting::count(&sections::all()),
         ["deciding"] => run_deciding(),
-        ["beside", older] => beside::run(older),
-        ["once", archive, row] => beside::once(archive, row),
+        ["beside", older] => beside::run(older, WithDialect),
+        ["beside", older, "without-dialect"] => beside::run(older, WithoutDialect),
+        ["once", archive, row] => beside::once(archive, WithDialect, row),
+        ["once", archive, row, "without-dialect"] => beside::once(archive, WithoutDialect, row),
         _ => misused("it takes no such arguments"),
     }
 }

@@ -3,7 +3,9 @@
 
 use std::hint::black_box;
 
-use crate::loaded::{self, Loaded, LINKED};
+use evaluator::RFC9309;
+
+use crate::loaded::{self, Loaded, Signature, LINKED};
 use crate::loaded_plain::{self, LoadedPlain};
 use crate::passes::MOST;
 
@@ -29,7 +31,7 @@ impl Both {
     pub fn load(before: usize) -> Both {
         let handles = loaded::open(&[(LINKED, before), (plain::ARCHIVE, before)]);
         Both {
-            library: loaded::library(handles[0], LINKED),
+            library: loaded::library(handles[0], LINKED, Signature::WithDialect),
             plain_c: loaded_plain::plain_c(handles[1]),
         }
     }
@@ -41,9 +43,9 @@ impl Both {
 
 /// What is asked.
 pub enum Asked {
-    /// Each name and path, by this file.
-    Decide(Vec<u8>, Vec<Pair>),
-    /// The same, for the unread count.
+    /// Each name and path, by this file, in this dialect.
+    Decide(usize, Vec<u8>, Vec<Pair>),
+    /// The same in the RFC's, for the unread count.
     Unread(Vec<u8>, Vec<Pair>),
     /// Each pattern against its path.
     Match(Vec<Pair>),
@@ -59,19 +61,21 @@ pub struct Row {
 }
 
 impl Row {
-    /// A decision by this file, whose octets are the units.
+    /// A decision by this file in the RFC's dialect; its octets are the units.
     pub fn deciding(name: impl Into<String>, file: Vec<u8>, questions: Vec<Pair>) -> Row {
         Row {
             name: name.into(),
             units: file.len().max(1),
-            asked: Asked::Decide(file, questions),
+            asked: Asked::Decide(RFC9309, file, questions),
         }
     }
 
     /// How many questions a pass asks.
     pub fn questions(&self) -> usize {
         match &self.asked {
-            Asked::Decide(_, pairs) | Asked::Unread(_, pairs) | Asked::Match(pairs) => pairs.len(),
+            Asked::Decide(_, _, pairs) | Asked::Unread(_, pairs) | Asked::Match(pairs) => {
+                pairs.len()
+            }
             Asked::Normalise(paths) => paths.len(),
         }
     }
@@ -79,7 +83,7 @@ impl Row {
     /// Asks all questions of one side, and gives a sum of the answers.
     pub fn pass(&self, side: Side) -> usize {
         match &self.asked {
-            Asked::Decide(file, pairs) => decide_all(side, file, pairs),
+            Asked::Decide(dialect, file, pairs) => decide_all(side, *dialect, file, pairs),
             Asked::Unread(file, pairs) => unread_all(side, file, pairs),
             Asked::Match(pairs) => match_all(side, pairs),
             Asked::Normalise(paths) => normalise_all(side, paths),
@@ -87,17 +91,17 @@ impl Row {
     }
 }
 
-fn decide_all(side: Side, file: &[u8], pairs: &[Pair]) -> usize {
+fn decide_all(side: Side, dialect: usize, file: &[u8], pairs: &[Pair]) -> usize {
     let file = || black_box(file);
     match side {
         Side::Library(build) => sum(pairs, |name, path| {
-            build.decide_disallow(file(), name, path)
+            build.decide_disallow(dialect, file(), name, path)
         }),
         Side::PlainC(build) => sum(pairs, |name, path| {
-            build.decide(file(), name, path).disallow
+            build.decide(dialect, file(), name, path).disallow
         }),
         Side::Evaluator => sum(pairs, |name, path| {
-            usize::from(evaluator::decide(file(), name, path).disallow)
+            usize::from(evaluator::decide_in(dialect, file(), name, path).disallow)
         }),
     }
 }
@@ -105,8 +109,12 @@ fn decide_all(side: Side, file: &[u8], pairs: &[Pair]) -> usize {
 fn unread_all(side: Side, file: &[u8], pairs: &[Pair]) -> usize {
     let file = || black_box(file);
     match side {
-        Side::Library(build) => sum(pairs, |name, path| build.decide_unread(file(), name, path)),
-        Side::PlainC(build) => sum(pairs, |name, path| build.decide(file(), name, path).unread),
+        Side::Library(build) => sum(pairs, |name, path| {
+            build.decide_unread(RFC9309, file(), name, path)
+        }),
+        Side::PlainC(build) => sum(pairs, |name, path| {
+            build.decide(RFC9309, file(), name, path).unread
+        }),
         Side::Evaluator => sum(pairs, |name, path| {
             evaluator::decide(file(), name, path).unread
         }),

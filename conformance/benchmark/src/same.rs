@@ -1,14 +1,21 @@
 //! Library, plain C and evaluator give the same answers.
 
+use evaluator::RFC9309;
+
 use crate::passes::MOST;
 use crate::rows::{Asked, Row};
 
 /// All numbers of each question of the row are the same, and none is refused.
 pub fn check(row: &Row) {
     match &row.asked {
-        Asked::Decide(file, pairs) | Asked::Unread(file, pairs) => {
+        Asked::Decide(dialect, file, pairs) => {
             for (name, path) in pairs {
-                decision(&row.name, file, name, path);
+                decision(&row.name, *dialect, file, name, path);
+            }
+        }
+        Asked::Unread(file, pairs) => {
+            for (name, path) in pairs {
+                decision(&row.name, RFC9309, file, name, path);
             }
         }
         Asked::Match(pairs) => {
@@ -25,9 +32,9 @@ pub fn check(row: &Row) {
 }
 
 /// The seven numbers of a decision.
-pub fn decision(row: &str, file: &[u8], name: &[u8], path: &[u8]) {
+pub fn decision(row: &str, dialect: usize, file: &[u8], name: &[u8], path: &[u8]) {
     let message = format!("{row}: {}", path.escape_ascii());
-    let expected = evaluator::decide(file, name, path);
+    let expected = evaluator::decide_in(dialect, file, name, path);
     let expected = plain::Decision {
         refusal: 0,
         disallow: usize::from(expected.disallow),
@@ -38,16 +45,16 @@ pub fn decision(row: &str, file: &[u8], name: &[u8], path: &[u8]) {
         compared: expected.compared,
     };
     let library = plain::Decision {
-        refusal: library::decide_refusal(file, name, path),
-        disallow: library::decide_disallow(file, name, path),
-        line: library::decide_line(file, name, path),
-        place: library::decide_place(file, name, path),
-        length: library::decide_length(file, name, path),
-        unread: library::decide_unread(file, name, path),
-        compared: library::decide_compared(file, name, path),
+        refusal: library::decide_refusal(dialect, file, name, path),
+        disallow: library::decide_disallow(dialect, file, name, path),
+        line: library::decide_line(dialect, file, name, path),
+        place: library::decide_place(dialect, file, name, path),
+        length: library::decide_length(dialect, file, name, path),
+        unread: library::decide_unread(dialect, file, name, path),
+        compared: library::decide_compared(dialect, file, name, path),
     };
     assert_eq!(library, expected, "library, {message}");
-    let plain_c = plain::decide(file, name, path);
+    let plain_c = plain::decide(dialect, file, name, path);
     assert_eq!(plain_c, expected, "plain C, {message}");
 }
 

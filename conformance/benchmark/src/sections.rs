@@ -1,5 +1,7 @@
 //! The sections of the table, with their rows.
 
+use evaluator::DRAFT1996;
+
 use crate::rows::{Asked, Pair, Row};
 use crate::sites::Site;
 use crate::{deciding, growth, others, patterns, shapes, sites, small};
@@ -23,6 +25,7 @@ pub fn all() -> Vec<Section> {
         },
         octets("files not tuned on", files(others::all())),
         octets("the unread count", unread(sites::all(), others::all())),
+        octets("files, by the draft of 1996", draft(sites::all())),
         octets("shapes", shapes::named()),
         section("small questions", None, small::rows()),
         section("matching, normalising", None, patterns::rows()),
@@ -52,9 +55,24 @@ fn unread(sites: [Site; 5], others: [Site; 5]) -> Vec<Row> {
     sites.map(|site| counting(file(site))).collect()
 }
 
+/// The files in the dialect of 1996.
+fn draft(sites: [Site; 5]) -> Vec<Row> {
+    sites.map(|site| in_draft(file(site))).into()
+}
+
+fn in_draft(row: Row) -> Row {
+    match row.asked {
+        Asked::Decide(_, file, pairs) => Row {
+            asked: Asked::Decide(DRAFT1996, file, pairs),
+            ..row
+        },
+        _ => row,
+    }
+}
+
 fn counting(row: Row) -> Row {
     match row.asked {
-        Asked::Decide(file, pairs) => Row {
+        Asked::Decide(_, file, pairs) => Row {
             asked: Asked::Unread(file, pairs),
             ..row
         },

@@ -1,5 +1,7 @@
 //! Small questions: little file, and paths of every length.
 
+use evaluator::RFC9309;
+
 use crate::rows::{Asked, Row};
 
 const TWO_LINES: &[u8] = b"User-agent: *\nDisallow: /search\n";
@@ -23,7 +25,7 @@ pub fn rows() -> Vec<Row> {
 fn question(name: impl Into<String>, file: &[u8], path: Vec<u8>) -> Row {
     Row {
         name: name.into(),
-        asked: Asked::Decide(file.to_vec(), vec![(b"ExampleBot".to_vec(), path)]),
+        asked: Asked::Decide(RFC9309, file.to_vec(), vec![(b"ExampleBot".to_vec(), path)]),
         units: 1,
     }
 }

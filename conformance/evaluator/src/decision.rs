@@ -1,11 +1,12 @@
 //! Deciding between the rules that apply.
 
-use std::cmp::Reverse;
-
+use crate::dialect::Dialect;
+use crate::first;
 use crate::groups::{applying_rules, Rule};
+use crate::heaviest;
 use crate::lines::{lines, Side, Span};
 use crate::matching::{Target, Weighed};
-use crate::normal::{Path, Weight};
+use crate::normal::Path;
 
 /// An unrefused decision.
 #[derive(Debug)]
@@ -20,9 +21,23 @@ pub(crate) struct Answer {
 }
 
 /// A rule with its walk's answer.
-struct Walked {
-    rule: Rule,
-    weighed: Weighed,
+pub(crate) struct Walked {
+    pub(crate) rule: Rule,
+    pub(crate) weighed: Weighed,
+}
+
+impl Walked {
+    pub(crate) fn found(&self) -> bool {
+        self.weighed.walk.found
+    }
+}
+
+/// The rules that were walked, the one of them that decides, and whether the
+/// path is disallowed by the dialect's definition.
+pub(crate) struct Chosen {
+    pub(crate) walked: Vec<Walked>,
+    pub(crate) deciding: Option<Rule>,
+    pub(crate) is_disallowed: bool,
 }
 
 impl Answer {
@@ -38,11 +53,12 @@ impl Answer {
 }
 
 /// Answers a question that isn't refused.
-pub(crate) fn answer(file: &[u8], name: &[u8], path: &[u8]) -> Answer {
+pub(crate) fn answer(dialect: Dialect, file: &[u8], name: &[u8], path: &[u8]) -> Answer {
     let lines = lines(file);
     let unread = lines.iter().filter(|line| line.kind.is_unread()).count();
     let path = Path::new(path);
-    // "/robots.txt, which is always allowed with no rule deciding"
+    // "/robots.txt, which is always allowed with no rule deciding", and
+    // "/robots.txt stays allowed as in 01" (M-113)
     if path.is_robots_txt() {
         return Answer {
             disallow: false,
@@ -53,65 +69,31 @@ pub(crate) fn answer(file: &[u8], name: &[u8], path: &[u8]) -> Answer {
         };
     }
     let length = path.octets().len();
+    let rules = applying_rules(file, &lines, name);
     let target = Target::new(path);
-    let walked: Vec<Walked> = applying_rules(file, &lines, name)
-        .into_iter()
-        .map(|rule| Walked {
-            rule,
-            weighed: target.walk_checked(rule.pattern.of(file)),
-        })
-        .collect();
-    let compared = walked.iter().map(|w| w.weighed.walk.compared).sum();
-    let summed: usize = walked.iter().map(|w| w.weighed.weight.0).sum();
+    let chosen = match dialect {
+        Dialect::Rfc9309 => heaviest::choose(file, rules, &target),
+        Dialect::Draft1996 => first::choose(file, rules, &target),
+    };
+    let walks = chosen.walked.iter().map(|w| w.weighed);
+    let compared = walks.clone().map(|w| w.walk.compared).sum();
+    let summed: usize = walks.map(|w| w.weight.0).sum();
     let bound = summed * length;
     assert!(
         compared <= bound,
         "{compared} compared for a summed weight of {summed} and a path of {length}"
     );
-    let deciding = deciding_rule(&walked);
-    let disallow = deciding.is_some_and(|rule| rule.side == Side::Disallow);
+    let side = chosen.deciding.map(|rule| rule.side);
+    let disallow = side == Some(Side::Disallow);
     assert_eq!(
-        disallow,
-        is_disallowed(&walked),
+        disallow, chosen.is_disallowed,
         "the deciding rule and the definition disagree"
     );
     Answer {
         disallow,
-        deciding,
+        deciding: chosen.deciding,
         unread,
         compared,
         bound,
     }
-}
-
-/// "the heaviest match, allow before disallow at equal weight, then the
-/// earliest line"
-fn deciding_rule(walked: &[Walked]) -> Option<Rule> {
-    walked
-        .iter()
-        .filter(|w| w.weighed.walk.found)
-        .max_by_key(|w| {
-            (
-                w.weighed.weight,
-                w.rule.side == Side::Allow,
-                Reverse(w.rule.line),
-            )
-        })
-        .map(|w| w.rule)
-}
-
-/// "some disallow rule matches and weighs more than every allow rule that
-/// matches"
-fn is_disallowed(walked: &[Walked]) -> bool {
-    let matching = |side: Side| -> Vec<Weight> {
-        walked
-            .iter()
-            .filter(|w| w.weighed.walk.found && w.rule.side == side)
-            .map(|w| w.weighed.weight)
-            .collect()
-    };
-    let allows = matching(Side::Allow);
-    matching(Side::Disallow)
-        .iter()
-        .any(|disallow| allows.iter().all(|allow| disallow > allow))
 }

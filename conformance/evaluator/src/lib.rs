@@ -2,12 +2,16 @@
 //!
 //! It is written from the papers alone, for clearness and not for speed.
 //! Whatever it works out twice, it compares: a walk's match with the
-//! fillings' match, a count with its bound, a decision with its definition.
-//! A difference is a panic.
+//! fillings' match, in the draft's dialect with a comparison of beginnings too,
+//! a count with its bound, a decision with its definition. A difference is a
+//! panic.
 
 mod decision;
+mod dialect;
 mod filling;
+mod first;
 mod groups;
+mod heaviest;
 mod lines;
 mod matching;
 mod normal;
@@ -16,6 +20,7 @@ mod utf8;
 mod walk;
 
 use decision::Answer;
+use dialect::Dialect;
 use lines::Kind;
 use matching::Target;
 use normal::Path;
@@ -66,27 +71,42 @@ pub struct LineKind {
     pub length: usize,
 }
 
-/// Decides whether the crawler `name` may fetch `path` under `file`.
+/// The numbers of the dialects (document 02, M-113).
+pub const RFC9309: usize = 0;
+pub const DRAFT1996: usize = 1;
+
+/// Decides whether the crawler `name` may fetch `path` under `file`, by the RFC.
 /// Refusals 1 to 5.
 pub fn decide(file: &[u8], name: &[u8], path: &[u8]) -> Decision {
-    match unrefused_decision(file, name, path) {
+    decide_in(RFC9309, file, name, path)
+}
+
+/// The same in the dialect of this number. Refusal 20, then 1 to 5.
+pub fn decide_in(dialect: usize, file: &[u8], name: &[u8], path: &[u8]) -> Decision {
+    match unrefused_decision(dialect, file, name, path) {
         Ok(answer) => answered(&answer),
         Err(refusal) => refused(refusal),
     }
 }
 
 /// The bound of a decision's compared count: the summed weights of the readable
-/// rules that apply, times the octets of the normalised path. 0 if refused, and
-/// for /robots.txt.
-pub fn compared_bound(file: &[u8], name: &[u8], path: &[u8]) -> usize {
-    unrefused_decision(file, name, path).map_or(0, |answer| answer.bound)
+/// rules that apply, in the draft's dialect of those up to the deciding one,
+/// times the octets of the normalised path. 0 if refused, and for /robots.txt.
+pub fn compared_bound(dialect: usize, file: &[u8], name: &[u8], path: &[u8]) -> usize {
+    unrefused_decision(dialect, file, name, path).map_or(0, |answer| answer.bound)
 }
 
-fn unrefused_decision(file: &[u8], name: &[u8], path: &[u8]) -> Result<Answer, Refusal> {
+fn unrefused_decision(
+    dialect: usize,
+    file: &[u8],
+    name: &[u8],
+    path: &[u8],
+) -> Result<Answer, Refusal> {
+    let dialect = Dialect::numbered(dialect)?;
     refusal::length(file)?;
     refusal::name(name)?;
     refusal::path(path)?;
-    Ok(decision::answer(file, name, path))
+    Ok(decision::answer(dialect, file, name, path))
 }
 
 fn answered(answer: &Answer) -> Decision {
@@ -135,7 +155,8 @@ fn unrefused_match(pattern: &[u8], path: &[u8]) -> Result<walk::Walk, Refusal> {
     refusal::length(pattern)?;
     refusal::path(path)?;
     refusal::pattern(lines::is_readable_pattern(pattern))?;
-    Ok(Target::new(Path::new(path)).walk_checked(pattern).walk)
+    let target = Target::new(Path::new(path));
+    Ok(target.walk_checked(Dialect::Rfc9309, pattern).walk)
 }
 
 /// Normalises a path into the front of `buffer`; the rest stays. Refusals 3
@@ -187,7 +208,8 @@ fn unrefused_kind(line: &[u8]) -> Result<Kind, Refusal> {
     Ok(lines::kind(line))
 }
 
-/// The program's whole output for an input. Refusal 7, then decide's.
+/// The program's whole output for an input, by the RFC. Refusal 7, then
+/// decide's.
 pub fn program(input: &[u8]) -> Vec<u8> {
     let output = match unrefused_output(input) {
         Ok(output) => output,
@@ -200,7 +222,7 @@ fn unrefused_output(input: &[u8]) -> Result<String, Refusal> {
     refusal::input(input)?;
     let (name, rest) = first_part(input);
     let (path, file) = first_part(rest);
-    let answer = unrefused_decision(file, name, path)?;
+    let answer = unrefused_decision(RFC9309, file, name, path)?;
     let word = if answer.disallow { "disallow" } else { "allow" };
     Ok(format!(
         "{word} line {} unread {} compared {}\n",

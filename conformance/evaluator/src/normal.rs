@@ -1,5 +1,7 @@
 //! Normalising, for a path and for a pattern.
 
+use crate::dialect::Dialect;
+
 /// What a normalised pattern is made of.
 #[derive(Debug, Clone, Copy, PartialEq, Eq)]
 pub(crate) enum Piece {
@@ -44,7 +46,14 @@ impl Path {
 }
 
 impl Pattern {
-    pub(crate) fn new(raw: &[u8]) -> Pattern {
+    pub(crate) fn new(dialect: Dialect, raw: &[u8]) -> Pattern {
+        match dialect {
+            Dialect::Rfc9309 => Pattern::of_rfc(raw),
+            Dialect::Draft1996 => Pattern::of_draft(raw),
+        }
+    }
+
+    fn of_rfc(raw: &[u8]) -> Pattern {
         // "a "$" as its last raw octet is the end mark, and the part before
         // it is normalised by itself"
         let (part, end_mark) = match raw {
@@ -54,6 +63,16 @@ impl Pattern {
         let mut pieces = Vec::new();
         each_piece(part, |piece| pieces.push(piece));
         Pattern { pieces, end_mark }
+    }
+
+    /// "star and dollar in a pattern are plain octets, normalised as in a path",
+    /// "and a pattern is one run without stars" (M-113)
+    fn of_draft(raw: &[u8]) -> Pattern {
+        let Path(octets) = Path::new(raw);
+        Pattern {
+            pieces: octets.into_iter().map(Piece::Octet).collect(),
+            end_mark: false,
+        }
     }
 
     pub(crate) fn pieces(&self) -> &[Piece] {

@@ -12,6 +12,7 @@ pub(crate) enum Refusal {
     InputTooLong = 7,
     Pattern = 8,
     LineEnding = 9,
+    Dialect = 20,
 }
 
 impl Refusal {

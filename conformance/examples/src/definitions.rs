@@ -1,16 +1,20 @@
-//! The rows of Examples.antt and OwnExamples.antt in crates/protocol/specs,
-//! for which the definitions are proved to compute the given answers.
+//! The rows of Examples.antt, OwnExamples.antt and DraftExamples.antt in
+//! crates/protocol/specs, for which the definitions are proved to compute the
+//! given answers.
 
-use evaluator::{Decision, LineKind, Matched};
+use evaluator::{Decision, LineKind, Matched, DRAFT1996, RFC9309};
 
 use crate::rows::{self, Row, Scanner};
 
-const FILES: [&str; 2] = ["Examples.antt", "OwnExamples.antt"];
+const FILES: [&str; 3] = ["Examples.antt", "OwnExamples.antt", "DraftExamples.antt"];
 
 /// The sorts of rows that are questions, and how many there are of each.
-pub const SORTS: [(&str, usize); 8] = [
+pub const SORTS: [(&str, usize); 11] = [
     ("row", 87),
     ("rowIn", 15),
+    ("rowBy", 19),
+    ("draftRow", 17),
+    ("pathRow", 16),
     ("sizes", 4),
     ("run", 6),
     ("located", 5),
@@ -33,6 +37,7 @@ pub struct DefinitionRow {
 #[derive(Debug, Clone, PartialEq, Eq)]
 pub enum Asked {
     Decide {
+        dialect: usize,
         file: Vec<u8>,
         name: Vec<u8>,
         path: Vec<u8>,
@@ -64,6 +69,7 @@ pub enum Asked {
 #[derive(Debug, Clone, PartialEq, Eq)]
 pub enum Told {
     Refusal(usize),
+    Disallow(bool),
     /// Refusal, disallow, line, unread and compared.
     Answer([usize; 5]),
     /// Place and length of the deciding pattern.
@@ -75,6 +81,7 @@ impl Told {
     pub fn of(&self, decision: &Decision) -> Told {
         match self {
             Told::Refusal(_) => Told::Refusal(decision.refusal),
+            Told::Disallow(_) => Told::Disallow(decision.disallow),
             Told::Answer(_) => Told::Answer([
                 decision.refusal,
                 usize::from(decision.disallow),
@@ -87,7 +94,7 @@ impl Told {
     }
 }
 
-/// All rows of both files that are questions, in order. What can't be read is
+/// All rows of these files that are questions, in order. What can't be read is
 /// a panic.
 pub fn definition_rows() -> Vec<DefinitionRow> {
     let specs = concat!(env!("CARGO_MANIFEST_DIR"), "/../../crates/protocol/specs");
@@ -106,12 +113,21 @@ fn scanned(row: Row) -> DefinitionRow {
     let asked = match sort.as_str() {
         "row" => {
             let file = rest.text_of_lines();
-            decide(&mut rest, file)
+            decide(&mut rest, RFC9309, file)
         }
         "rowIn" => {
             let file = rest.octets();
-            decide(&mut rest, file)
+            decide(&mut rest, RFC9309, file)
         }
+        "rowBy" => {
+            let (dialect, file) = (rest.number(), rest.text_of_lines());
+            decide(&mut rest, dialect, file)
+        }
+        "draftRow" => {
+            let file = rest.text_of_lines();
+            decide(&mut rest, DRAFT1996, file)
+        }
+        "pathRow" => path_matches(&mut rest),
         "sizes" => sizes(&mut rest),
         "run" => run(&mut rest),
         "located" => located(&mut rest),
@@ -125,8 +141,8 @@ fn scanned(row: Row) -> DefinitionRow {
     DefinitionRow { place, sort, asked }
 }
 
-/// A row of document 01's table or of ours: file, name, path, answer.
-fn decide(row: &mut Scanner, file: Vec<u8>) -> Asked {
+/// A row of document 01's table or of ours: name, path, answer.
+fn decide(row: &mut Scanner, dialect: usize, file: Vec<u8>) -> Asked {
     let (name, path) = (row.text(), row.text());
     let told = match row.answer() {
         (word, numbers) if word == "refused" => {
@@ -143,10 +159,23 @@ fn decide(row: &mut Scanner, file: Vec<u8>) -> Asked {
         }
     };
     Asked::Decide {
+        dialect,
         file,
         name,
         path,
         told,
+    }
+}
+
+/// A row of the draft's table: record path, URL path, whether a disallow line of
+/// the one closes the other, for the name a.
+fn path_matches(row: &mut Scanner) -> Asked {
+    Asked::Decide {
+        dialect: DRAFT1996,
+        file: [b"user-agent: *\ndisallow: ", row.text().as_slice()].concat(),
+        name: b"a".to_vec(),
+        path: row.text(),
+        told: Told::Disallow(row.truth()),
     }
 }
 
@@ -161,6 +190,7 @@ fn disallow(word: &str) -> usize {
 /// Octets of "x" as name, and behind a "/" as path; refusal.
 fn sizes(row: &mut Scanner) -> Asked {
     Asked::Decide {
+        dialect: RFC9309,
         file: Vec::new(),
         name: vec![b'x'; row.number()],
         path: [b"/".to_vec(), vec![b'x'; row.number()]].concat(),
@@ -179,6 +209,7 @@ fn run(row: &mut Scanner) -> Asked {
 /// File, path, place and length of the deciding pattern, for the name a.
 fn located(row: &mut Scanner) -> Asked {
     Asked::Decide {
+        dialect: RFC9309,
         file: row.octets(),
         name: b"a".to_vec(),
         path: row.text(),

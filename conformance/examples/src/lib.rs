@@ -67,6 +67,8 @@ pub struct Example {
 #[derive(Debug, Clone, PartialEq, Eq)]
 pub enum Question {
     Decide {
+        /// 0 for the RFC's, 1 for the draft's of 1996.
+        dialect: usize,
         file: Vec<u8>,
         name: Vec<u8>,
         path: Vec<u8>,

@@ -2,6 +2,7 @@
 
 use crate::octets::unescape;
 use crate::{answer, is_id, Example, Expected, Malformed, Printed, Question};
+use evaluator::{DRAFT1996, RFC9309};
 
 const INDENT: &str = "    ";
 
@@ -111,11 +112,16 @@ impl<'a> Reader<'a> {
 
     fn ask(&self, columns: &[&str]) -> Result<Asked, String> {
         match *columns {
-            ["decide", _, name, path, printed, answer, pattern] => {
+            [word @ ("decide" | "draft"), _, name, path, printed, answer, pattern] => {
                 let Rules::Whole(file) = &self.rules else {
-                    return Err("decide without a rules file".to_string());
+                    return Err(format!("{word} without a rules file"));
                 };
-                ask_decide(file, [name, path], printed, [answer, pattern])
+                let asked = ask_decide(file, [name, path], printed, [answer, pattern])?;
+                Ok(if word == "draft" {
+                    in_draft(asked)
+                } else {
+                    asked
+                })
             }
             ["match", _, pattern, path, printed, answer] => {
                 let (pattern, path) = (unescape(pattern)?, unescape(path)?);
@@ -149,11 +155,20 @@ fn ask_decide(
     let printed = answer::printed_decision(printed)?;
     let expected = answer::decision(answer, pattern, file)?;
     let question = Question::Decide {
+        dialect: RFC9309,
         file: file.to_vec(),
         name: unescape(name)?,
         path: unescape(path)?,
     };
     Ok((question, printed, expected))
+}
+
+/// The same in the dialect of 1996.
+fn in_draft((mut question, printed, expected): Asked) -> Asked {
+    if let Question::Decide { dialect, .. } = &mut question {
+        *dialect = DRAFT1996;
+    }
+    (question, printed, expected)
 }
 
 fn add_rule_line(file: &mut Vec<u8>, line: &str) -> Result<(), String> {

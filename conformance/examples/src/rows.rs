@@ -15,28 +15,36 @@ impl Row {
     }
 }
 
-/// A text that rows call by its name.
-const NAMED: &str = "simpleExample";
+/// Texts that rows call by their names.
+const NAMED: [&str; 2] = ["simpleExample", "draftRecord"];
 
-/// What stands below its `=`, moved in, as one text in parentheses; `()` where
-/// no text has the name.
-fn named_text(text: &str) -> String {
-    let (_, below) = text
-        .split_once(&format!("\n{NAMED} =\n"))
-        .unwrap_or_default();
-    let lines = below.lines().map_while(|line| line.strip_prefix("    "));
-    format!("({})", lines.collect::<Vec<_>>().join(" "))
+/// What the name is defined as: the text behind its `=`, or what stands below,
+/// moved in, as one text in parentheses. Nothing where the file doesn't define
+/// it.
+fn named_text(text: &str, name: &str) -> Option<String> {
+    let (_, behind) = text.split_once(&format!("\n{name} ="))?;
+    let mut lines = behind.lines();
+    match lines.next()?.trim() {
+        "" => {
+            let below = lines.map_while(|line| line.strip_prefix("    "));
+            Some(format!("({})", below.collect::<Vec<_>>().join(" ")))
+        }
+        beside => Some(beside.to_string()),
+    }
 }
 
-/// The rows of these sorts, with what the named text holds in its place.
+/// The rows of these sorts, with what the named texts hold in their places.
 pub fn read(file: &'static str, text: &str, sorts: &[&str]) -> Vec<Row> {
-    let named = named_text(text);
+    let named = NAMED.map(|name| Some((name, named_text(text, name)?)));
+    let named: Vec<(&str, String)> = named.into_iter().flatten().collect();
     let numbered = text.lines().enumerate();
     numbered
         .filter_map(|(at, line)| {
             let inner = line.strip_prefix("    ")?;
-            let text = inner.strip_prefix("∷ ").unwrap_or(inner);
-            let text = text.replace(NAMED, &named);
+            let mut text = inner.strip_prefix("∷ ").unwrap_or(inner).to_string();
+            for (name, held) in &named {
+                text = text.replace(name, held);
+            }
             let line = at + 1;
             let row = Row { file, line, text };
             sorts.contains(&row.sort()).then_some(row)

@@ -1,6 +1,6 @@
 //! A data file with a fault is an error that names the file and the line.
 
-use examples::read;
+use examples::{read, Question};
 
 const RULES: &str = "at 001, here\nrules\n    user-agent: a\n    disallow: /x\nend\n";
 
@@ -21,6 +21,22 @@ fn a_good_file_is_read() {
     let rows = read("good.txt", &format!("{RULES}{row}")).expect("no fault");
     assert_eq!(rows.len(), 1);
     assert_eq!((rows[0].row, rows[0].id.as_str()), (6, "001-x-01"));
+}
+
+#[test]
+fn a_row_has_a_dialect() {
+    let decide = "decide | 001-x-01 | a | /x | disallow | disallow 2 0 2 | /x\n";
+    let draft = "draft | 001-x-02 | a | /x | disallow | disallow 2 0 2 | /x\n";
+    let rows = read("good.txt", &format!("{RULES}{decide}{draft}")).expect("no fault");
+    let dialects: Vec<usize> = rows
+        .iter()
+        .map(|row| match row.question {
+            Question::Decide { dialect, .. } => dialect,
+            _ => panic!("no decision: {}", row.id),
+        })
+        .collect();
+    assert_eq!(dialects, [0, 1]);
+    assert_eq!(rows[0].expected, rows[1].expected);
 }
 
 #[test]
@@ -92,6 +108,15 @@ fn faults_of_decisions() {
         "at x\ndecide | 001-x-01 | a | /x | allow | allow 0 0 0 | -\n",
         2,
         "decide without a rules file",
+    );
+    fault(
+        "at x\ndraft | 001-x-01 | a | /x | allow | allow 0 0 0 | -\n",
+        2,
+        "draft without a rules file",
+    );
+    decide_fault(
+        "draft | 001-x-01 | a | /x | disallow | disallow 3 0 2 | /x",
+        "the rules file has no such line",
     );
     decide_fault(
         "decide | 001-x-01 | a | /x | open | allow 0 0 0 | -",

@@ -10,7 +10,7 @@ const COUNTS: [(&str, usize); 4] = [
     ("000-002.txt", 84),
     ("001.txt", 125),
     ("003.txt", 49),
-    ("004.txt", 36),
+    ("004.txt", 83),
 ];
 
 /// More than any normalised path: 6,142 octets and a tail.
@@ -39,9 +39,12 @@ fn normalise(path: &[u8]) -> Expected {
 
 fn ask(question: &Question) -> Expected {
     match question {
-        Question::Decide { file, name, path } => {
-            Expected::Decide(evaluator::decide(file, name, path))
-        }
+        Question::Decide {
+            dialect,
+            file,
+            name,
+            path,
+        } => Expected::Decide(evaluator::decide_in(*dialect, file, name, path)),
         Question::Match { pattern, path } => {
             Expected::Match(evaluator::match_pattern(pattern, path))
         }
@@ -75,6 +78,31 @@ fn no_row_is_skipped() {
     }
     let total: usize = COUNTS.iter().map(|(_, count)| count).sum();
     assert_eq!(rows.len(), total);
+}
+
+/// The rows of 004's table in its own dialect: each as printed.
+#[test]
+fn the_drafts_table_is_answered_as_printed() {
+    let rows = rows();
+    let table = rows
+        .iter()
+        .filter(|row| row.id.starts_with("004-drafttable-"));
+    let table: Vec<&Example> = table.collect();
+    assert_eq!(table.len(), 15);
+    assert!(table.iter().all(|row| !row.decided_against()));
+}
+
+/// How many rows ask for a decision in each dialect.
+#[test]
+fn both_dialects_are_asked() {
+    let mut asked = [0; 2];
+    for row in rows() {
+        if let Question::Decide { dialect, .. } = row.question {
+            asked[dialect] += 1;
+            assert!(dialect == 0 || row.source == "004.txt", "{}", row.id);
+        }
+    }
+    assert_eq!(asked, [163, 42]);
 }
 
 #[test]

@@ -71,6 +71,11 @@ fn file(random: &mut Random, name: &[u8], path: &[u8]) -> Vec<u8> {
             lines.extend(between(random));
         }
     }
+    joined(random, lines)
+}
+
+/// The lines with their endings, now and then behind a mark.
+pub(crate) fn joined(random: &mut Random, lines: Vec<Vec<u8>>) -> Vec<u8> {
     let mut file = Vec::new();
     if random.one_in(8) {
         file.extend(MARK);
@@ -86,7 +91,7 @@ fn file(random: &mut Random, name: &[u8], path: &[u8]) -> Vec<u8> {
     file
 }
 
-fn agent(random: &mut Random, name: &[u8]) -> Vec<u8> {
+pub(crate) fn agent(random: &mut Random, name: &[u8]) -> Vec<u8> {
     match random.below(20) {
         0..=5 => other_case(random, name),
         6 | 7 => [other_case(random, name), behind_name(random)].concat(),
@@ -100,7 +105,7 @@ fn agent(random: &mut Random, name: &[u8]) -> Vec<u8> {
 }
 
 /// A line that is neither an agent line nor a rule, sometimes.
-fn between(random: &mut Random) -> Option<Vec<u8>> {
+pub(crate) fn between(random: &mut Random) -> Option<Vec<u8>> {
     let line = match random.below(20) {
         0 => spaces(random).to_vec(),
         1 => comment(random),

@@ -18,6 +18,8 @@ mod dense;
 mod dense_values;
 mod derived;
 mod derived_files;
+mod draft;
+mod draft_edges;
 mod edges;
 mod files;
 mod patterns;
@@ -25,6 +27,7 @@ mod random;
 mod small;
 mod text;
 
+pub use draft_edges::draft_decide_edges;
 pub use edges::{decide_edges, line_edges, match_edges, normalise_edges, program_edges};
 pub use patterns::normal_length;
 pub use small::{after_slash, after_slash_or_star, strings};
@@ -33,6 +36,7 @@ use agents::agent_value;
 use dense::dense_decide_case;
 use derived::derived_case;
 use derived_files::{derived_decide_case, long_decide_case};
+use draft::draft_decide_case;
 use files::Setting;
 use patterns::{path, pattern, theme};
 use random::Random;
@@ -85,6 +89,7 @@ const DERIVED_DECIDE: u64 = 7;
 const LONG_DECIDE: u64 = 8;
 const AGENT: u64 = 9;
 const DENSE_DECIDE: u64 = 10;
+const DRAFT_DECIDE: u64 = 11;
 
 /// Draws `count` cases of one sort.
 fn drawn<T>(
@@ -117,6 +122,13 @@ pub fn long_decide_cases(seed: u64, count: usize) -> impl Iterator<Item = Decide
 /// of line stands at every offset of a block of 64 octets.
 pub fn dense_decide_cases(seed: u64, count: usize) -> impl Iterator<Item = DecideCase> {
     drawn(seed, DENSE_DECIDE, count, dense_decide_case)
+}
+
+/// Generated questions for deciding in the dialect of 1996: paths with stars and
+/// dollars, patterns that are mostly beginnings of the path, and several groups
+/// that apply. More than half are decided by a rule.
+pub fn draft_decide_cases(seed: u64, count: usize) -> impl Iterator<Item = DecideCase> {
+    drawn(seed, DRAFT_DECIDE, count, draft_decide_case)
 }
 
 /// Generated questions for matching.

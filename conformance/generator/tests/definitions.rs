@@ -8,7 +8,8 @@ use std::fs;
 use std::path::{Path, PathBuf};
 use std::process::Command;
 
-use evaluator::{decide, line_kind, match_pattern, normalise, program};
+use evaluator::{decide_in, line_kind, match_pattern, normalise, program, Decision};
+use evaluator::{DRAFT1996, RFC9309};
 use generator::{DecideCase, LineCase, MatchCase, NormaliseCase, ProgramCase, SEED};
 
 /// How many generated cases of each sort, and from how many they are taken.
@@ -21,6 +22,9 @@ const AT_ONCE: usize = 50;
 const LONGEST_FILE: usize = 160;
 const LONGEST_PATH: usize = 40;
 
+/// Neither 0 nor 1, in however many of their bits they look like them.
+const UNKNOWN: [usize; 8] = [2, 3, 255, 256, 257, 1 << 32, (1 << 32) + 1, usize::MAX];
+
 /// The crate's one proof file in front of the cases.
 const HEAD: &str = include_str!("definitions/head.txt");
 
@@ -30,8 +34,12 @@ fn list<T: Display>(numbers: &[T]) -> String {
     format!("({items}[])")
 }
 
-fn decided(case: &DecideCase) -> String {
-    let answer = decide(&case.file, &case.name, &case.path);
+fn answer(dialect: usize, case: &DecideCase) -> Decision {
+    decide_in(dialect, &case.file, &case.name, &case.path)
+}
+
+fn decided(dialect: usize, case: &DecideCase) -> String {
+    let answer = answer(dialect, case);
     let expected = [
         answer.refusal,
         usize::from(answer.disallow),
@@ -42,7 +50,8 @@ fn decided(case: &DecideCase) -> String {
         answer.compared,
     ];
     let (file, name, path) = (list(&case.file), list(&case.name), list(&case.path));
-    format!("decided {file} {name} {path} {}", list(&expected))
+    let expected = list(&expected);
+    format!("decided {dialect} {file} {name} {path} {expected}")
 }
 
 fn matched(case: &MatchCase) -> String {
@@ -73,17 +82,45 @@ fn printed(case: &ProgramCase) -> String {
     format!("printed {} {}", list(&case.input), list(&output))
 }
 
+fn is_small(case: &DecideCase) -> bool {
+    case.file.len() <= LONGEST_FILE && case.path.len() <= LONGEST_PATH
+}
+
+/// Small ones of these, in this dialect: half of them such as are counted, and
+/// half others.
+fn halves(
+    dialect: usize,
+    cases: impl Iterator<Item = DecideCase>,
+    counted: impl Fn(&Decision) -> bool,
+) -> impl Iterator<Item = String> {
+    let (counted, others): (Vec<_>, Vec<_>) = cases
+        .filter(is_small)
+        .take(10 * CASES)
+        .partition(|case| counted(&answer(dialect, case)));
+    let half = |cases: Vec<_>| cases.into_iter().take(CASES / 2);
+    half(counted)
+        .chain(half(others))
+        .map(move |case| decided(dialect, &case))
+}
+
 /// Generated questions for deciding; half of them compare something.
 fn decide_rows() -> impl Iterator<Item = String> {
-    let small = generator::decide_cases(SEED, DRAWN)
-        .filter(|case| case.file.len() <= LONGEST_FILE && case.path.len() <= LONGEST_PATH);
-    let (comparing, others): (Vec<_>, Vec<_>) = small
-        .take(10 * CASES)
-        .partition(|case| decide(&case.file, &case.name, &case.path).compared > 0);
-    let half = |cases: Vec<_>| cases.into_iter().take(CASES / 2);
-    half(comparing)
-        .chain(half(others))
-        .map(|case| decided(&case))
+    let cases = generator::decide_cases(SEED, DRAWN);
+    halves(RFC9309, cases, |answer| answer.compared > 0)
+}
+
+/// Generated questions for the dialect of 1996; half of them are decided by a
+/// rule.
+fn draft_rows() -> impl Iterator<Item = String> {
+    let cases = generator::draft_decide_cases(SEED, DRAWN);
+    halves(DRAFT1996, cases, |answer| answer.line > 0)
+}
+
+/// Generated questions with each of the unknown dialects.
+fn unknown_dialect_rows() -> impl Iterator<Item = String> {
+    let small = generator::draft_decide_cases(SEED, DRAWN).filter(is_small);
+    let numbered = UNKNOWN.into_iter().zip(small);
+    numbered.map(|(dialect, case)| decided(dialect, &case))
 }
 
 /// Generated cases of the other sorts.
@@ -106,18 +143,31 @@ fn other_rows() -> impl Iterator<Item = String> {
         .chain(inputs.take(CASES))
 }
 
+/// The pattern as one rule's in the dialect of 1996.
+fn draft_rule(pattern: Vec<u8>, path: Vec<u8>) -> String {
+    let file = [b"user-agent:*\ndisallow:", pattern.as_slice()].concat();
+    let name = b"a".to_vec();
+    decided(DRAFT1996, &DecideCase { file, name, path })
+}
+
 /// Every octet as a name, as the last octet of a path, a pattern, a rule's
 /// pattern and an agent's value, as the first of a pattern, a rule's pattern and
-/// an agent's value, and behind a star.
+/// an agent's value, and behind a star. In the dialect of 1996 a rule's pattern
+/// that ends with it is asked about the octet as it is and about its escape.
 fn octet_rows() -> impl Iterator<Item = String> {
     (0..=u8::MAX).flat_map(|octet| {
         let after = |front: &[u8]| [front, &[octet]].concat();
         [
-            decided(&DecideCase {
-                file: Vec::new(),
-                name: after(b""),
-                path: b"/".to_vec(),
-            }),
+            decided(
+                RFC9309,
+                &DecideCase {
+                    file: Vec::new(),
+                    name: after(b""),
+                    path: b"/".to_vec(),
+                },
+            ),
+            draft_rule(after(b"/"), after(b"/")),
+            draft_rule(after(b"/"), format!("/%{octet:02x}").into_bytes()),
             normalised(&NormaliseCase {
                 path: after(b"/"),
                 room: 5,
@@ -238,10 +288,15 @@ fn repository(proofs: &str) -> Folder {
 
 #[test]
 fn the_definitions_compute_what_the_evaluator_answers() {
-    let generated: Vec<String> = decide_rows().chain(other_rows()).collect();
-    assert_eq!(generated.len(), 5 * CASES);
+    let decisions = decide_rows().chain(draft_rows());
+    let generated: Vec<String> = decisions.chain(other_rows()).collect();
+    assert_eq!(generated.len(), 6 * CASES);
     let systematic = octet_rows().chain(escape_rows()).chain(character_rows());
-    let cases: Vec<String> = generated.into_iter().chain(systematic).collect();
+    let cases: Vec<String> = generated
+        .into_iter()
+        .chain(unknown_dialect_rows())
+        .chain(systematic)
+        .collect();
     let statements = cases.chunks(AT_ONCE).enumerate();
     let proofs: String = statements.map(|(at, some)| statement(at, some)).collect();
     let folder = repository(&format!("{HEAD}{proofs}"));

@@ -50,6 +50,7 @@ pub struct Normalised {
 #[link(name = "plain", kind = "static")]
 extern "C" {
     fn plain_decide(
+        dialect: usize,
         file: *const u8,
         file_length: usize,
         name: *const u8,
@@ -71,11 +72,13 @@ extern "C" {
     ) -> Normalised;
 }
 
-/// Decides whether the crawler `name` may fetch `path` under `file`.
-pub fn decide(file: &[u8], name: &[u8], path: &[u8]) -> Decision {
+/// Decides whether the crawler `name` may fetch `path` under `file`, in the
+/// dialect of this number: 0 for the RFC's, 1 for the draft's of 1996.
+pub fn decide(dialect: usize, file: &[u8], name: &[u8], path: &[u8]) -> Decision {
     // SAFETY: the pointers and lengths are those of slices.
     unsafe {
         plain_decide(
+            dialect,
             file.as_ptr(),
             file.len(),
             name.as_ptr(),

@@ -2,7 +2,8 @@
  * A file is read once, from front to back. A line that is neither an agent line
  * nor a rule is left at its first octets. Whether a group names the crawler is
  * known at the end only; until one does, the rules for everyone are walked too,
- * into a tally of their own.
+ * into a tally of their own. By the draft of 1996 the first match decides, and
+ * no rule behind it is walked.
  */
 #include "plain.h"
 
@@ -16,6 +17,8 @@ enum {
     PATH_MOST = 2048,
     NORMALISED_MOST = 6142 /* "/", and an escape for each other octet */
 };
+
+enum { RFC9309 = 0, DRAFT1996 = 1 };
 
 /* What an octet is; several may hold. */
 enum {
@@ -78,6 +81,7 @@ struct tally {
 };
 
 struct state {
+    bool draft; /* the dialect is that of 1996 */
     struct text name;
     struct text path;
     bool always_allowed; /* the path is /robots.txt, and no rule is walked */
@@ -211,16 +215,29 @@ static struct walked walk(const struct pattern *pattern, struct text path)
     }
 }
 
-static void walk_rule(struct tally *tally, const struct pattern *pattern, bool disallow,
-                      size_t line, struct text path)
+/* By the draft, "*" and "$" are octets that normalising changes, as in a path. */
+static void make_one_run(struct pattern *pattern)
 {
-    struct walked walked = walk(pattern, path);
+    pattern->changed += pattern->stars + pattern->end_mark;
+    pattern->stars = 0;
+    pattern->end_mark = false;
+}
+
+static void walk_rule(const struct state *state, struct tally *tally, struct pattern *pattern,
+                      bool disallow)
+{
+    if (state->draft) {
+        if (tally->line != 0)
+            return;
+        make_one_run(pattern);
+    }
+    struct walked walked = walk(pattern, state->path);
     tally->compared += walked.compared;
     bool allows_at_tie = walked.weight == tally->weight && tally->disallow && !disallow;
     if (walked.weight > tally->weight || allows_at_tie) {
         tally->weight = walked.weight;
         tally->disallow = disallow;
-        tally->line = line;
+        tally->line = state->line;
         tally->raw = pattern->raw;
     }
 }
@@ -307,9 +324,9 @@ static const uint8_t *rule_line(struct state *state, const uint8_t *at, const ui
     if (state->always_allowed)
         return at;
     if (state->names_crawler)
-        walk_rule(&state->own, &pattern, disallow, state->line, state->path);
+        walk_rule(state, &state->own, &pattern, disallow);
     else if (state->names_everyone && !state->crawler_named)
-        walk_rule(&state->everyone, &pattern, disallow, state->line, state->path);
+        walk_rule(state, &state->everyone, &pattern, disallow);
     return at;
 }
 
@@ -452,8 +469,10 @@ static size_t path_refusal(struct text path)
     return 0;
 }
 
-static size_t refusal(struct text file, struct text name, struct text path)
+static size_t refusal(size_t dialect, struct text file, struct text name, struct text path)
 {
+    if (dialect != RFC9309 && dialect != DRAFT1996)
+        return 20;
     if (file.length > FILE_MOST)
         return 1;
     return is_name(name) ? path_refusal(path) : 2;
@@ -466,13 +485,13 @@ static bool is_robots_txt(struct text path)
            && memcmp(path.start, robots_txt, path.length) == 0;
 }
 
-struct plain_decision plain_decide(const uint8_t *file, size_t file_length,
+struct plain_decision plain_decide(size_t dialect, const uint8_t *file, size_t file_length,
                                    const uint8_t *name, size_t name_length,
                                    const uint8_t *path, size_t path_length)
 {
     struct text whole = {file, file_length}, raw_path = {path, path_length};
-    struct state state = {.name = {name, name_length}};
-    size_t refused = refusal(whole, state.name, raw_path);
+    struct state state = {.draft = dialect == DRAFT1996, .name = {name, name_length}};
+    size_t refused = refusal(dialect, whole, state.name, raw_path);
     if (refused)
         return (struct plain_decision){.refusal = refused, .disallow = 1};
     uint8_t buffer[NORMALISED_MOST];

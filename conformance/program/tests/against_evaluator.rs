@@ -5,6 +5,7 @@ use std::fs;
 use std::path::Path;
 use std::process::Output;
 
+use evaluator::RFC9309;
 use examples::{definition_rows, Asked, Expected, Question};
 use generator::SEED;
 
@@ -240,7 +241,8 @@ fn long_numbers() {
     }
 }
 
-/// The rows of the definitions' tables, as the program's input.
+/// The rows of the definitions' tables, as the program's input; those of
+/// decisions in the RFC's dialect only, as the program has no other.
 #[test]
 fn every_row_of_the_definitions() {
     let (mut runs, mut decisions) = (0, 0);
@@ -251,7 +253,11 @@ fn every_row_of_the_definitions() {
                 check_output(&program::run(&input, usize::MAX), &output, &input);
             }
             Asked::Decide {
-                file, name, path, ..
+                dialect: RFC9309,
+                file,
+                name,
+                path,
+                ..
             } => {
                 decisions += 1;
                 check(&[name, path, file].join(b"\n".as_slice()));
@@ -259,18 +265,26 @@ fn every_row_of_the_definitions() {
             _ => {}
         }
     }
-    assert_eq!((runs, decisions), (6, 111), "runs and decisions");
+    assert_eq!((runs, decisions), (6, 118), "runs and decisions");
 }
 
-/// The examples of the sources, with the answers that are written beside them.
+/// The examples of the sources in the RFC's dialect, with the answers that are
+/// written beside them.
 #[test]
 fn every_example_of_a_decision() {
     let mut rows = 0;
     for row in examples::all().unwrap_or_else(|fault| panic!("{fault}")) {
-        let (Question::Decide { file, name, path }, Expected::Decide(expected)) =
-            (&row.question, &row.expected)
+        let Question::Decide {
+            dialect: RFC9309,
+            file,
+            name,
+            path,
+        } = &row.question
         else {
             continue;
+        };
+        let Expected::Decide(expected) = &row.expected else {
+            panic!("{}: no decision is expected", row.id);
         };
         rows += 1;
         let input = [name.as_slice(), path, file].join(b"\n".as_slice());
@@ -286,7 +300,7 @@ fn every_example_of_a_decision() {
         };
         check_line(&input, &line);
     }
-    assert_eq!(rows, 158, "rows that ask for a decision");
+    assert_eq!(rows, 163, "rows that ask for a decision");
 }
 
 /// Sizes and octets that are written down, and generated inputs: every refusal

@@ -1,4 +1,4 @@
--- What rules come to, one after the other, gives document 01's decision among them. Assumes nothing.
+-- What rules come to, one after the other, gives document 01's decision among them, in the RFC's dialect. Assumes nothing.
 use Prim.Native.Nat.{ℕ, _+_, _*_, _≤_, _<_}
 use mathlib.Core.Path.{_≡_, refl, _∙_}
 use mathlib.Core.List.{List, [], _∷_}
@@ -9,14 +9,15 @@ use borrow.Author.Tests.{ltb-true, ltb-false, lt-ltb, le-ltb}
 use Rattle.lists.specs.Lists.{kept, total}
 use Rattle.lists.specs.Each.{Each}
 use Rattle.lists.proofs.Bools.{split}
+use Rattle.protocol.specs.declared.Dialect.{Dialect}
 use Rattle.protocol.specs.declared.Side.{Side}
 use Rattle.protocol.specs.declared.Rule.{Rule}
-use Rattle.protocol.specs.Decision.{patternOf, weightOf, walkOf, comparedBy, matching, allows, chosen, deciding, decidedBy, decidedAmong}
+use Rattle.protocol.specs.Decision.{patternOf, weightIn, weightOf, walkOf, matching, allows, chosen, heaviest, deciding, walked, comparedBy, decidedBy, decidedAmong}
 use Rattle.protocol.proofs.Deciding.{rankBy, rank, outdoes-rank}
 use Rattle.walk.specs.Weights.{weighed}
 use Rattle.considering.specs.declared.Best.{Best}
 use Rattle.considering.specs.declared.Considered.{Considered}
-use Rattle.considering.specs.Considering.{noBest, noneConsidered, better, added, bestWith, considered, consideredAll, decidedAs, concluded}
+use Rattle.considering.specs.Considering.{noBest, noneConsidered, better, added, bestWith, walkedOnce, considered, consideredAll, decidedAs, concluded}
 use Rattle.considering.proofs.Weighs.{Weighs}
 
 pub added-count : (side : Side) (b : Best) (n : ℕ) (s : Considered) → added side b n s .compared ≡ s .compared + n
@@ -38,12 +39,12 @@ module _ (a b : Best) where
   better-under n h k = split (ltb (a .weight) (b .weight)) (λ e. rw e k) (λ e. rw e h)
 
 -- the weight of the heaviest rule of a side
-abbrev pub heaviest : Considered → Side → ℕ
-heaviest s Side.Allow = s .allow .weight
-heaviest s Side.Disallow = s .disallow .weight
+abbrev pub weightOn : Considered → Side → ℕ
+weightOn s Side.Allow = s .allow .weight
+weightOn s Side.Disallow = s .disallow .weight
 
 -- a rule that is no heavier changes nothing but the count
-pub added-past : (side : Side) (b : Best) (n : ℕ) (s : Considered) → b .weight ≤ heaviest s side
+pub added-past : (side : Side) (b : Best) (n : ℕ) (s : Considered) → b .weight ≤ weightOn s side
     → added side b n s ≡ record { allow = s .allow; disallow = s .disallow; compared = s .compared + n }
 unfolding added
 added-past Side.Allow b n s h = rw (better-earlier (s .allow) b h)
@@ -147,7 +148,7 @@ module _ (file : List ℕ) where
   Settled o s = Leads (sideOf o) (bestOf o) s
 
   -- one rule more, which matches
-  settled-with : (o : Option Rule) (s : Considered) (r : Rule) (n : ℕ) → Settled o s → Weighs file r
+  settled-with : (o : Option Rule) (s : Considered) (r : Rule) (n : ℕ) → Settled o s → Weighs Dialect.Rfc9309 file r
       → Settled (before o (some r)) (added (r .side) (bestOf (some r)) n s)
   unfolding rank
   settled-with none s r n h w =
@@ -168,35 +169,35 @@ module _ (file : List ℕ) where
       (omega (arith, rank-most (r .side) 0, lead-rank (sideOf o) (bestOf o) s h))
 
   module _ (path : List ℕ) where
-    settled-over : (o : Option Rule) (s : Considered) (rs : List Rule) → Settled o s → Each (Weighs file) rs
-        → Settled (before o (deciding file (matching file path rs))) (consideredAll file path s rs)
-    unfolding deciding matching kept consideredAll considered weighed walkOf weightOf
+    settled-over : (o : Option Rule) (s : Considered) (rs : List Rule) → Settled o s → Each (Weighs Dialect.Rfc9309 file) rs
+        → Settled (before o (heaviest file (matching Dialect.Rfc9309 file path rs))) (consideredAll Dialect.Rfc9309 file path s rs)
+    unfolding heaviest matching kept consideredAll considered walkedOnce weighed walkOf weightIn
     settled-over o s [] h w = rw (before-none o) h
     settled-over o s (r ∷ rs) h w =
-        let n = walkOf file path r .count in
+        let n = walkOf Dialect.Rfc9309 file path r .count in
         let with = settled-over (before o (some r)) (added (r .side) (bestOf (some r)) n s) rs (settled-with o s r n h (w .0)) (w .1) in
         let past = settled-over o (added (r .side) (bestWith r 0) n s) rs (settled-past o s r n h) (w .1) in
-        split (walkOf file path r .stood)
-        (λ e. rw e (rw (before-assoc o r (deciding file (matching file path rs))) at with))
+        split (walkOf Dialect.Rfc9309 file path r .stood)
+        (λ e. rw e (rw (before-assoc o r (heaviest file (matching Dialect.Rfc9309 file path rs))) at with))
         (λ e. rw e past)
 
-    over-compared : (s : Considered) (rs : List Rule) → consideredAll file path s rs .compared ≡ s .compared + comparedBy file path rs
-    unfolding consideredAll considered weighed walkOf comparedBy total
+    over-compared : (s : Considered) (rs : List Rule) → consideredAll Dialect.Rfc9309 file path s rs .compared ≡ s .compared + comparedBy Dialect.Rfc9309 file path rs
+    unfolding consideredAll considered walkedOnce weighed walkOf walked comparedBy total
     over-compared s [] = omega arith
     over-compared s (r ∷ rs) =
-        let n = walkOf file path r .count in
-        let b = bestWith r (weighed (patternOf file r) path .weight) in
+        let n = walkOf Dialect.Rfc9309 file path r .count in
+        let b = bestWith r (weighed Dialect.Rfc9309 (patternOf file r) path .weight) in
         omega (arith, over-compared (added (r .side) b n s) rs, added-count (r .side) b n s)
 
     -- What rules that all weigh something come to gives the decision among them.
-    pub concluded-among : (rs : List Rule) (s : Considered) (u : ℕ) → Each (Weighs file) rs → s ≡ consideredAll file path noneConsidered rs
-        → concluded s u ≡ decidedAmong file path rs u
-    unfolding decidedAmong decidedBy
-    concluded-among rs s u w e =
-        let o = deciding file (matching file path rs) in
+    pub concluded-heaviest : (rs : List Rule) (s : Considered) (u : ℕ) → Each (Weighs Dialect.Rfc9309 file) rs → s ≡ consideredAll Dialect.Rfc9309 file path noneConsidered rs
+        → concluded s u ≡ decidedAmong Dialect.Rfc9309 file path rs u
+    unfolding decidedAmong decidedBy deciding
+    concluded-heaviest rs s u w e =
+        let o = heaviest file (matching Dialect.Rfc9309 file path rs) in
         let settled : Settled o s = rw e (settled-over none noneConsidered rs (refl, omega arith) w) in
-        let counted : s .compared ≡ comparedBy file path rs = rw e (omega (arith, over-compared noneConsidered rs)) in
-        lead-decides (sideOf o) (bestOf o) s u settled ∙ rw counted (said o (comparedBy file path rs))
+        let counted : s .compared ≡ comparedBy Dialect.Rfc9309 file path rs = rw e (omega (arith, over-compared noneConsidered rs)) in
+        lead-decides (sideOf o) (bestOf o) s u settled ∙ rw counted (said o (comparedBy Dialect.Rfc9309 file path rs))
       where
         said : (o : Option Rule) (c : ℕ) → decidedAs (sideOf o) (bestOf o) u c ≡ decidedBy o u c
         said none c = refl

@@ -1,3 +1,4 @@
+pub mod Firsts
 pub mod Leads
 pub mod Rooms
 pub mod Weighs

@@ -9,13 +9,14 @@ use Rattle.lists.specs.Choice.{if_then_else_}
 use Rattle.lists.specs.Lists.{kept}
 use Rattle.lists.specs.Each.{Each}
 use Rattle.lists.proofs.Bools.{split}
+use Rattle.protocol.specs.declared.Dialect.{Dialect}
 use Rattle.protocol.specs.Octets.{unreserved}
 use Rattle.protocol.specs.Text.{begins, ends}
 use Rattle.protocol.specs.Readable.{patternStart, readablePattern}
-use Rattle.protocol.specs.Normal.{encoded, meant, escape, isEscape, escapeAt, isEncoded, plain, replacement, normal}
-use Rattle.protocol.specs.Pattern.{rawText, shapeOf, weight}
+use Rattle.protocol.specs.Normal.{encoded, meant, escape, isEscape, escapeAt, isEncoded, plain, replacement, normal, normalPath}
+use Rattle.protocol.specs.Pattern.{rawText, shapeOf, shapeIn, weight}
 use Rattle.protocol.specs.declared.Rule.{Rule}
-use Rattle.protocol.specs.Decision.{patternOf, readableRules, weightOf}
+use Rattle.protocol.specs.Decision.{patternOf, readableRules, weightIn}
 
 escape-some : (c : ℕ) (l : List ℕ) → isEscape c l ≡ true → 1 ≤ length (escapeAt l)
 unfolding isEscape escapeAt escape
@@ -31,31 +32,35 @@ replacement-some : (stars : Bool) (c : ℕ) (l : List ℕ) → 1 ≤ length (rep
 unfolding replacement
 replacement-some stars c l = split (isEscape c l) (λ e. rw e (escape-some c l e)) (λ e. rw e (plain-some stars c))
 
--- Whatever a pattern begins with, it weighs something.
-some-weight : (c : ℕ) (l : List ℕ) → 1 ≤ weight (shapeOf (c ∷ l))
-unfolding weight shapeOf rawText normal
-some-weight c l =
-    split (ends "$" (c ∷ l)) (λ e. rw e (omega arith))
-    (λ e.
-    let rest = normal true (if isEscape c l then 2 else 0) l in
-    rw e (omega (arith, length-append (replacement true c l) rest, replacement-some true c l)))
+normal-some : (stars : Bool) (c : ℕ) (l : List ℕ) → 1 ≤ length (normal stars 0 (c ∷ l))
+unfolding normal
+normal-some stars c l =
+    let rest = normal stars (if isEscape c l then 2 else 0) l in
+    omega (arith, length-append (replacement stars c l) rest, replacement-some stars c l)
+
+-- Whatever a pattern begins with, it weighs something, in both dialects.
+some-weight : (d : Dialect) (c : ℕ) (l : List ℕ) → 1 ≤ weight (shapeIn d (c ∷ l))
+unfolding weight shapeIn shapeOf rawText normalPath
+some-weight Dialect.Rfc9309 c l =
+    split (ends "$" (c ∷ l)) (λ e. rw e (omega arith)) (λ e. rw e (omega (arith, normal-some true c l)))
+some-weight Dialect.Draft1996 c l = omega (arith, normal-some false c l)
 
 -- an empty pattern isn't readable
 pub empty-unreadable : readablePattern [] ≡ false
 unfolding readablePattern patternStart begins
 empty-unreadable = refl
 
-readable-weight : (p : List ℕ) → readablePattern p ≡ true → 1 ≤ weight (shapeOf p)
-readable-weight [] h = absurd (false≢true (sym empty-unreadable ∙ h))
-readable-weight (c ∷ l) h = some-weight c l
+readable-weight : (d : Dialect) (p : List ℕ) → readablePattern p ≡ true → 1 ≤ weight (shapeIn d p)
+readable-weight d [] h = absurd (false≢true (sym empty-unreadable ∙ h))
+readable-weight d (c ∷ l) h = some-weight d c l
 
-abbrev pub Weighs : List ℕ → Rule → Type 0
-Weighs file r = 1 ≤ weightOf file r
+abbrev pub Weighs : Dialect → List ℕ → Rule → Type 0
+Weighs d file r = 1 ≤ weightIn d file r
 
 -- Readable rules weigh at least 1.
-pub rules-weigh : (file : List ℕ) (rs : List Rule) → Each (Weighs file) (readableRules file rs)
-unfolding readableRules kept weightOf
-rules-weigh file [] = tt
-rules-weigh file (r ∷ rs) =
-    split (readablePattern (patternOf file r)) (λ e. rw e (readable-weight (patternOf file r) e, rules-weigh file rs))
-    (λ e. rw e (rules-weigh file rs))
+pub rules-weigh : (d : Dialect) (file : List ℕ) (rs : List Rule) → Each (Weighs d file) (readableRules file rs)
+unfolding readableRules kept weightIn
+rules-weigh d file [] = tt
+rules-weigh d file (r ∷ rs) =
+    split (readablePattern (patternOf file r)) (λ e. rw e (readable-weight d (patternOf file r) e, rules-weigh d file rs))
+    (λ e. rw e (rules-weigh d file rs))

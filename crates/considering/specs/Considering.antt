@@ -1,10 +1,12 @@
 -- What the rules that apply come to for a path, one after the other, and the decision that this is. Assumes nothing.
 use Prim.Native.Nat.{ℕ, _+_, _*_, _≤_, _<_, _^_}
+use mathlib.Core.Bool.{Bool, false, _||_}
 use mathlib.Core.List.{List, [], _∷_}
 use lib.Dec.{ltb}
 use lib.ListN.{length}
 use Rattle.lists.specs.Choice.{if_then_else_}
 use Rattle.protocol.specs.declared.Side.{Side}
+use Rattle.protocol.specs.declared.Dialect.{Dialect}
 use Rattle.protocol.specs.declared.Rule.{Rule}
 use Rattle.protocol.specs.declared.Decision.{Decision}
 use Rattle.protocol.specs.Lines.{lineNumber, placeAt}
@@ -33,14 +35,27 @@ added Side.Disallow b n c = record { allow = c .allow; disallow = better (c .dis
 abbrev pub bestWith : Rule → ℕ → Best
 bestWith r w = record { weight = w; line = r .line; place = r .place; length = r .length }
 
+-- some rule has matched
+abbrev pub matched : Considered → Bool
+matched c = ltb 0 (c .allow .weight) || ltb 0 (c .disallow .weight)
+
+-- nothing more is made of further rules: in the draft's dialect, of those behind the first match
+abbrev pub settled : Dialect → Considered → Bool
+settled Dialect.Rfc9309 c = false
+settled Dialect.Draft1996 c = matched c
+
 -- one rule more, by the walk of its pattern over the path
-unfoldable pub considered : List ℕ → List ℕ → Rule → Considered → Considered
-considered pattern path r c = added (r .side) (bestWith r (weighed pattern path .weight)) (weighed pattern path .compared) c
+unfoldable pub walkedOnce : Dialect → List ℕ → List ℕ → Rule → Considered → Considered
+walkedOnce d pattern path r c = added (r .side) (bestWith r (weighed d pattern path .weight)) (weighed d pattern path .compared) c
+
+-- the same, unless nothing more is made of it
+unfoldable pub considered : Dialect → List ℕ → List ℕ → Rule → Considered → Considered
+considered d pattern path r c = if settled d c then c else walkedOnce d pattern path r c
 
 -- rules of a file, one after the other
-unfoldable pub consideredAll : List ℕ → List ℕ → Considered → List Rule → Considered
-consideredAll file path c [] = c
-consideredAll file path c (r ∷ rs) = consideredAll file path (considered (patternOf file r) path r c) rs
+unfoldable pub consideredAll : Dialect → List ℕ → List ℕ → Considered → List Rule → Considered
+consideredAll d file path c [] = c
+consideredAll d file path c (r ∷ rs) = consideredAll d file path (considered d (patternOf file r) path r c) rs
 
 -- there is room for the numbers after a rule: an octet of a pattern adds at most 3 to its weight, and so 3 * 6,142 pairs
 pub record Room (pattern path scratch : List ℕ) (c : Considered) : Type 0 where

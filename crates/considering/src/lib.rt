@@ -5,8 +5,9 @@ ghost use mathlib.Core.Path.{_≡_};
 ghost use Prim.Native.Nat.{_+_, _<_, _^_};
 ghost use lib.ListN.{length};
 ghost use Rattle.protocol.specs.Answers.{refusedDecision};
-ghost use Rattle.considering.specs.Considering.{noBest, noneConsidered, added, considered, Room, decidedAs, concluded};
+ghost use Rattle.considering.specs.Considering.{noBest, noneConsidered, added, matched, settled, considered, Room, decidedAs, concluded};
 use protocol::Decision;
+use protocol::Dialect;
 use protocol::LineNumber;
 use protocol::Place;
 use protocol::Rule;
@@ -84,9 +85,33 @@ fn add(c: Considered, side: Side, rule: Best, compared: usize) -> Considered
     }
 }
 
-// One rule more, with its pattern's octets. It is walked once: match, weight and count come out of that one walk. What the scratch then holds is
-// left free.
+// Some rule has matched.
+fn is_matched(c: Considered) -> bool
+    ensures { λ r. ⌜ r ≡ matched c ⌝ }
+{
+    let allow = c.allow;
+    let disallow = c.disallow;
+    if 0 < allow.weight {
+        return true;
+    }
+    0 < disallow.weight
+}
+
+// No further rule is walked: in the draft's dialect the first match decides.
+fn is_settled(dialect: Dialect, c: Considered) -> bool
+    ensures { λ r. ⌜ r ≡ settled dialect c ⌝ }
+{
+    let matched = is_matched(c);
+    match dialect {
+        Dialect::Rfc9309 => false,
+        Dialect::Draft1996 => matched,
+    }
+}
+
+// One rule more, with its pattern's octets. It is walked at most once: match, weight and count come out of that one walk. What the scratch then
+// holds is left free.
 pub fn consider(
+    dialect: Dialect,
     c: Considered,
     rule: Rule,
     pattern: &[u8],
@@ -94,10 +119,13 @@ pub fn consider(
     scratch: &mut [u8],
 ) -> Considered
     requires { ⌜ Room (now pattern) (now path) (now scratch) c ⌝ }
-    ensures { λ r. ⌜ r ≡ considered (now (pattern .entry)) (now (path .entry)) rule c ⌝ }
+    ensures { λ r. ⌜ r ≡ considered dialect (now (pattern .entry)) (now (path .entry)) rule c ⌝ }
     ensures { λ _. ⌜ length (now (scratch .exit)) ≡ length (now (scratch .entry)) ⌝ }
 {
-    let w = walk::weigh(pattern, path, scratch);
+    if is_settled(dialect, c) {
+        return c;
+    }
+    let w = walk::weigh(dialect, pattern, path, scratch);
     let line = rule.line;
     let place = rule.place;
     let side = rule.side;
@@ -127,7 +155,7 @@ fn decided_as(side: Side, rule: Best, unread: usize, compared: usize) -> Decisio
     }
 }
 
-// After the last rule: allow, unless the heaviest disallow rule outweighs the heaviest allow rule.
+// After the last rule: allow, unless the heaviest disallow rule outweighs the heaviest allow rule. In the draft's dialect there is at most one.
 pub fn conclude(c: Considered, unread: usize) -> Decision
     ensures { λ r. ⌜ r ≡ concluded c unread ⌝ }
 {

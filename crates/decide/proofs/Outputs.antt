@@ -10,5 +10,5 @@ use Rattle.protocol.specs.Program.{refusedText, answerText, firstPart, behind, 
 use Rattle.protocol.proofs.Limits.{output-answered}
 
 pub output-decided : (input : List ℕ) → length input ≤ 65_536 → {name rest path file : List ℕ} {d : Decision} → name ≡ firstPart input → rest ≡ behind input
-    → path ≡ firstPart rest → file ≡ behind rest → d ≡ decide file name path → output input ≡ unlessRefused (d .refusal) refusedText (answerText d)
+    → path ≡ firstPart rest → file ≡ behind rest → d ≡ decide 0 file name path → output input ≡ unlessRefused (d .refusal) refusedText (answerText d)
 output-decided input h n r p f e = output-answered input h (rw (p, f, n, r) at e)

@@ -1,11 +1,12 @@
 -- A decision as it is told: refused, or out of what is gathered. Assumes nothing.
 use Prim.Native.Nat.{ℕ}
-use mathlib.Core.Path.{_≡_, refl, sym, ap, ap₂, _∙_}
+use mathlib.Core.Path.{_≡_, refl, ap, _∙_}
 use mathlib.Core.Bool.{Bool, true, false}
 use mathlib.Core.List.{List}
 use lib.Dec.{ltb}
 use Rattle.lists.specs.Choice.{if_then_else_}
 use Rattle.lists.proofs.Bools.{split}
+use Rattle.protocol.specs.declared.Dialect.{Dialect}
 use Rattle.protocol.specs.Entries.{entries}
 use Rattle.protocol.specs.Decision.{answered}
 use Rattle.protocol.specs.Answers.{refusedDecision}
@@ -25,11 +26,11 @@ unfolding concluded
 concluded-told whole c unread = split (ltb (c .allow .weight) (c .disallow .weight)) (λ e. rw e) (λ e. rw e)
 
 -- what is gathered for those whose groups apply, and told of it, gives the answer
-pub gathered-told : (file name path : List ℕ) (whole : Bool) (g : Gathered)
-    → g ≡ passes.told whole (passes.gathered file name (passes.audienceFor file name path) path)
-    → concluded (g .considered) (g .unread) ≡ told whole (answered file (entries file) name path)
-gathered-told file name path whole g e =
-    let all = passes.gathered file name (passes.audienceFor file name path) path in
+pub gathered-told : (d : Dialect) (file name path : List ℕ) (whole : Bool) (g : Gathered)
+    → g ≡ passes.told whole (passes.gathered d file name (passes.audienceFor file name path) path)
+    → concluded (g .considered) (g .unread) ≡ told whole (answered d file (entries file) name path)
+gathered-told d file name path whole g e =
+    let all = passes.gathered d file name (passes.audienceFor file name path) path in
     ap (λ (x : Gathered). concluded (x .considered) (x .unread)) e
     ∙ concluded-told whole (all .considered) (all .unread)
-    ∙ ap (told whole) (gathered-decides file name path all refl)
+    ∙ ap (told whole) (gathered-decides d file name path all refl)

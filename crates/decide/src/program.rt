@@ -16,5 +16,5 @@ pub fn output(input: &[u8]) -> Line
     let path = output::parts::first_part(rest);
     let file = output::parts::behind(rest);
     let classes = octets::classes();
-    output::answer_line(crate::answers::decide(&classes, true, file, name, path))
+    output::answer_line(crate::answers::decide(&classes, true, file, name, path, 0))
 }

@@ -8,10 +8,11 @@ use native.Mathlib.Omega.{arith}
 use lib.Dec.{ltb}
 use lib.ListN.{length, drop, getD, length-drop}
 use borrow.Author.Tests.{ne-eqb, ltb-true, ltb-false, not-true, not-false}
-use Rattle.lists.proofs.Bools.{split, and-left, and-right}
+use Rattle.lists.proofs.Bools.{split}
 use Rattle.lists.proofs.Scans.{drop-one}
 use Rattle.protocol.specs.Octets.{is, unreserved, hex}
 use Rattle.protocol.specs.Normal.{encoded, meant, escape, isEscape, escapeAt, isEncoded, plain, replacement}
+use Rattle.protocol.proofs.Plain.{escape-hex}
 use Rattle.escapes.specs.declared.Replacement.{Replacement}
 use Rattle.escapes.specs.declared.Measure.{Measure}
 use Rattle.escapes.specs.Escapes.{kept, octetsOf, Encoded, Escaped, ChangedAt, ReplacementAt, MeasureAt}
@@ -30,12 +31,6 @@ unfolding isEscape
 no-digits x [] h = refl
 no-digits x (d ∷ []) h = refl
 no-digits x (d ∷ e ∷ l) h = absurd (omega arith)
-
--- hex digits, both of them
-pub escape-hex : (x d e : ℕ) (l : List ℕ) → isEscape x (d ∷ e ∷ l) ≡ true → (hex d ≡ true) × (hex e ≡ true)
-unfolding isEscape
-escape-hex x d e l h =
-    (and-right (is "%" x) (hex d) (and-left (is "%" x && hex d) (hex e) h), and-right (is "%" x && hex d) (hex e) h)
 
 percent-not-kept : (stars : Bool) (x : ℕ) → x ≡ code "%" → kept stars x ≡ false
 percent-not-kept stars x h = rw h

@@ -1,17 +1,15 @@
 -- Facts about the octets that are normalised, shown for all of them at once. Assumes nothing.
-use Prim.Native.Nat.{ℕ, _+_, _-_, _/_, _%_, _≤_, _<_}
-use Prim.Native.Char.{code}
-use mathlib.Core.Path.{_≡_, refl, sym, ap, _∙_}
-use mathlib.Core.Bool.{Bool, true, false, not, true≢false, false≢true}
+use Prim.Native.Nat.{ℕ, _-_, _/_, _%_, _≤_, _<_}
+use mathlib.Core.Path.{_≡_, refl, _∙_}
+use mathlib.Core.Bool.{Bool, true, false, not, false≢true}
 use native.Mathlib.Omega.{arith}
 use lib.Dec.{leb, ltb, eqb}
-use borrow.Author.Tests.{ltb-true, ltb-false, leb-true, le-leb, lt-leb, eqb-true, ne-eqb}
+use borrow.Author.Tests.{ltb-true, ltb-false, leb-true, le-leb, lt-leb}
 use Rattle.lists.specs.Choice.{if_then_else_}
 use Rattle.lists.specs.Lists.{numbersFrom}
 use Rattle.lists.proofs.Bools.{split, and-right}
 use Rattle.protocol.specs.Octets.{upper, lower, digit, unreserved, hex, lowerCase, upperCase, hexValue, hexDigit}
 use Rattle.protocol.specs.Normal.{encoded, meant, escape, special}
-use Rattle.protocol.specs.Pattern.{isStar}
 use Rattle.protocol.specs.Classes.{classOf}
 use Rattle.protocol.specs.declared.Sort.{Sort}
 use Rattle.protocol.proofs.Classes.{sort-told, value-told}
@@ -58,22 +56,3 @@ escape-encoded d e h k u =
     let high : meant d e / 16 ≡ hexValue d = omega (arith, hex-class e k) in
     let low : meant d e % 16 ≡ hexValue e = omega (arith, hex-class e k) in
     rw (u, high, low, upper-digit d h, upper-digit e k)
-
--- what passes a test that "*" doesn't pass is no star
-not-star : (f : ℕ → Bool) → f (code "*") ≡ false → (x : ℕ) → f x ≡ true → isStar x ≡ false
-not-star f n x h =
-    split (isStar x) (λ e. absurd (true≢false (sym h ∙ ap f (eqb-true x (code "*") e) ∙ n))) (λ e. e)
-
-pub unreserved-not-star : (x : ℕ) → unreserved x ≡ true → isStar x ≡ false
-unfolding unreserved upper lower digit
-unreserved-not-star = not-star unreserved refl
-
-pub hex-not-star : (x : ℕ) → hex x ≡ true → isStar x ≡ false
-unfolding hex digit
-hex-not-star = not-star hex refl
-
--- a written hex digit is none, whatever its number
-pub digit-not-star : (n : ℕ) → isStar (hexDigit n) ≡ false
-unfolding hexDigit
-digit-not-star n =
-    split (ltb n 10) (λ e. rw e (ne-eqb (48 + n) 42 (λ z. omega arith))) (λ e. rw e (ne-eqb (65 + (n - 10)) 42 (λ z. omega arith)))

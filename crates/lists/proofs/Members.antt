@@ -1,6 +1,6 @@
 -- Members of a list, those that pass a test, sums over them, and numbers that ascend. Assumes nothing.
 use Prim.Native.Nat.{ℕ, _*_, _≤_, _<_}
-use mathlib.Core.Path.{_≡_, refl, sym, ap, subst}
+use mathlib.Core.Path.{_≡_, refl, sym, ap, subst, _∙_}
 use mathlib.Core.Bool.{Bool, true, false, _&&_, or-true, false≢true}
 use mathlib.Core.Logic.{_↔_, ⊎-elim}
 use mathlib.Core.List.{List, [], _∷_, _++_, map, List·Memᴰ, List·Memᴰ·head, List·Memᴰ·tail, List·Memᴰ·not-nil, List·Memᴰ·cases-cons}
@@ -9,7 +9,7 @@ use native.Mathlib.Nat.{add-mul}
 use Rattle.lists.specs.Choice.{if_then_else_}
 use Rattle.lists.specs.Ascending.{Ascending}
 use Rattle.lists.specs.Each.{Each}
-use Rattle.lists.specs.Lists.{any, kept, total}
+use Rattle.lists.specs.Lists.{any, kept, through, total}
 use Rattle.lists.proofs.Bools.{split}
 
 module _ {A : Type 0} where
@@ -64,6 +64,31 @@ module _ {A : Type 0} (f g : A → Bool) where
       (λ e. rw e (ap (λ (m : List A). (if g x then x ∷ [] else []) ++ m) (kept-kept l)))
       (λ e. rw e (kept-kept l))
 
+  -- up to the first that passes both tests, among those that pass the first one: that one ends it, or nothing does
+  pub through-none : (l : List A) → Each (λ x. (f x && g x) ≡ false) l → through g (kept f l) ≡ kept f l
+  unfolding kept through
+  through-none [] h = refl
+  through-none (x ∷ l) h =
+      split (f x)
+      (λ e. rw (e, rw e at (h .0)) (ap (λ (m : List A). x ∷ m) (through-none l (h .1))))
+      (λ e. rw e (through-none l (h .1)))
+
+  pub through-first : (front back : List A) (x : A) → Each (λ y. (f y && g y) ≡ false) front → f x ≡ true → g x ≡ true
+      → through g (kept f (front ++ (x ∷ back))) ≡ kept f front ++ (x ∷ [])
+  unfolding kept through
+  through-first [] back x h p q = rw (p, q)
+  through-first (y ∷ front) back x h p q =
+      split (f y)
+      (λ e. rw (e, rw e at (h .0)) (ap (λ (m : List A). y ∷ m) (through-first front back x (h .1) p q)))
+      (λ e. rw e (through-first front back x (h .1) p q))
+
+module _ {A : Type 0} (f : A → Bool) where
+  pub kept-middle : (front back : List A) (x : A) → f x ≡ true → kept f (front ++ (x ∷ back)) ≡ kept f front ++ (x ∷ kept f back)
+  unfolding kept
+  kept-middle [] back x p = rw p
+  kept-middle (y ∷ front) back x p =
+      split (f y) (λ e. rw e (ap (λ (m : List A). y ∷ m) (kept-middle front back x p))) (λ e. rw e (kept-middle front back x p))
+
 module _ {A : Type 0} (f g : A → ℕ) (k : ℕ) (h : (x : A) → f x ≤ g x * k) where
   -- a bound on each element bounds the sum
   pub total-bound : (l : List A) → total f l ≤ total g l * k
@@ -86,3 +111,18 @@ module _ {A : Type 0} (f : A → ℕ) where
   pub ascending-behind : (k : ℕ) (front back : List A) (x y : A) → Ascending k (map f (front ++ (x ∷ back))) → List·Memᴰ y back → f x < f y
   ascending-behind k [] back x y a m = ascending-member (f x) back y (a .1) m
   ascending-behind k (z ∷ front) back x y a m = ascending-behind (f z) front back x y (a .1) m
+
+  -- members of the same number are the same
+  pub ascending-same : (k : ℕ) (l : List A) (x y : A) → Ascending k (map f l) → List·Memᴰ x l → List·Memᴰ y l → f x ≡ f y → x ≡ y
+  ascending-same k [] x y a m n e = absurd (List·Memᴰ·not-nil m)
+  ascending-same k (z ∷ l) x y a m n e =
+      ⊎-elim
+      (λ (p : x ≡ z).
+      ⊎-elim (λ (q : y ≡ z). p ∙ sym q)
+      (λ (u : List·Memᴰ y l). absurd (omega (arith, ascending-member (f z) l y (a .1) u, ap f p)))
+      (List·Memᴰ·cases-cons n))
+      (λ (t : List·Memᴰ x l).
+      ⊎-elim (λ (q : y ≡ z). absurd (omega (arith, ascending-member (f z) l x (a .1) t, ap f q)))
+      (λ (u : List·Memᴰ y l). ascending-same (f z) l x y (a .1) t u e)
+      (List·Memᴰ·cases-cons n))
+      (List·Memᴰ·cases-cons m)

@@ -35,6 +35,11 @@ module _ {A : Type 0} where
   from f [] = []
   from f (x ∷ l) = if f x then x ∷ l else from f l
 
+  -- the elements up to the first that passes the test f, and that one too: all of them where none does
+  unfoldable pub through : (A → Bool) → List A → List A
+  through f [] = []
+  through f (x ∷ l) = x ∷ (if f x then [] else through f l)
+
   -- the sum of f over the elements
   unfoldable pub total : (A → ℕ) → List A → ℕ
   total f [] = 0

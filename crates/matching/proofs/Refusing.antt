@@ -47,7 +47,7 @@ module _ (pattern path : List ℕ) where
         none-refused (pathRows path) (badPattern pattern ∷ []) (sym (not-too-long pattern (pathRows path ++ (badPattern pattern ∷ [])) short-pattern) ∙ h)
 
     -- the count fits: it is at most 3 * 512,000 * 6,142
-    pub count-fits : CountFits pattern (normalPath path)
+    pub count-fits : CountFits (shapeOf pattern) (normalPath path)
     count-fits =
         let w : weight (shapeOf pattern) ≤ 1_536_000 = omega (arith, weight-size pattern, short-pattern) in
         omega (arith, mul-le-mul w (path-room path good-path))

@@ -30,7 +30,7 @@ pub fn match_refusal(pattern: &[u8], path: &[u8]) -> usize
 
 // Normalises the path into the buffer, and walks the pattern over it.
 fn walk_in(pattern: &[u8], path: &[u8], buffer: &mut [u8], scratch: &mut [u8]) -> Walked
-    requires { ⌜ (length (normalPath (now path)) ≤ length (now buffer)) × (length (normalPath (now path)) ≤ length (now scratch)) × CountFits (now pattern) (normalPath (now path)) ⌝ }
+    requires { ⌜ (length (normalPath (now path)) ≤ length (now buffer)) × (length (normalPath (now path)) ≤ length (now scratch)) × CountFits (shapeOf (now pattern)) (normalPath (now path)) ⌝ }
     ensures { λ r. ⌜ r ≡ walk (shapeOf (now (pattern .entry))) (normalPath (now (path .entry))) ⌝ }
 {
     let n = normal::write(false, path, buffer);
@@ -39,7 +39,7 @@ fn walk_in(pattern: &[u8], path: &[u8], buffer: &mut [u8], scratch: &mut [u8]) -
 
 // Room for a normalised path of at most 384 octets: to clear more would take longer than most walks.
 fn walk_short(pattern: &[u8], path: &[u8]) -> Walked
-    requires { ⌜ (length (normalPath (now path)) ≤ 384) × CountFits (now pattern) (normalPath (now path)) ⌝ }
+    requires { ⌜ (length (normalPath (now path)) ≤ 384) × CountFits (shapeOf (now pattern)) (normalPath (now path)) ⌝ }
     ensures { λ r. ⌜ r ≡ walk (shapeOf (now (pattern .entry))) (normalPath (now (path .entry))) ⌝ }
 {
     let mut buffer = [0u8; 384];
@@ -49,7 +49,7 @@ fn walk_short(pattern: &[u8], path: &[u8]) -> Walked
 
 // Room for a normalised path of at most 1,536 octets.
 fn walk_middle(pattern: &[u8], path: &[u8]) -> Walked
-    requires { ⌜ (length (normalPath (now path)) ≤ 1536) × CountFits (now pattern) (normalPath (now path)) ⌝ }
+    requires { ⌜ (length (normalPath (now path)) ≤ 1536) × CountFits (shapeOf (now pattern)) (normalPath (now path)) ⌝ }
     ensures { λ r. ⌜ r ≡ walk (shapeOf (now (pattern .entry))) (normalPath (now (path .entry))) ⌝ }
 {
     let mut buffer = [0u8; 1536];
@@ -59,7 +59,7 @@ fn walk_middle(pattern: &[u8], path: &[u8]) -> Walked
 
 // Room for the longest normalised path.
 fn walk_long(pattern: &[u8], path: &[u8]) -> Walked
-    requires { ⌜ (length (normalPath (now path)) ≤ 6142) × CountFits (now pattern) (normalPath (now path)) ⌝ }
+    requires { ⌜ (length (normalPath (now path)) ≤ 6142) × CountFits (shapeOf (now pattern)) (normalPath (now path)) ⌝ }
     ensures { λ r. ⌜ r ≡ walk (shapeOf (now (pattern .entry))) (normalPath (now (path .entry))) ⌝ }
 {
     let mut buffer = [0u8; 6142];
@@ -69,7 +69,7 @@ fn walk_long(pattern: &[u8], path: &[u8]) -> Walked
 
 // Walks the pattern over a path that is its own normalised path: nothing is copied, and there is room for the runs of the pattern.
 fn walk_unchanged(pattern: &[u8], path: &[u8]) -> Walked
-    requires { ⌜ (length (now path) ≤ 2048) × CountFits (now pattern) (now path) ⌝ }
+    requires { ⌜ (length (now path) ≤ 2048) × CountFits (shapeOf (now pattern)) (now path) ⌝ }
     ensures { λ r. ⌜ r ≡ walk (shapeOf (now (pattern .entry))) (now (path .entry)) ⌝ }
 {
     if path.len() <= 128 {

@@ -1,6 +1,6 @@
 -- To cut a pattern at its stars and to normalise it: the order doesn't matter, since a star is in no escape and only a star gives one.
 -- Assumes nothing.
-use Prim.Native.Nat.{ℕ, _/_, _%_}
+use Prim.Native.Nat.{ℕ, _%_}
 use Prim.Native.Char.{code}
 use mathlib.Core.Path.{_≡_, refl, sym, ap, _∙_}
 use mathlib.Core.Bool.{true, false, not, false≢true}
@@ -11,37 +11,12 @@ use Rattle.lists.specs.Lists.{all, upTo}
 use Rattle.lists.proofs.Bools.{split, and-left, and-right}
 use Rattle.lists.proofs.Parts.{upTo-stop, upTo-on}
 use Rattle.lists.proofs.Fronts.{upTo-clear}
-use Rattle.protocol.specs.Octets.{hex, hexValue, unreserved}
-use Rattle.protocol.specs.Normal.{encoded, meant, escape, isEscape, escapeAt, special, isEncoded, plain, replacement, normal}
+use Rattle.protocol.specs.Normal.{isEscape, escapeAt, special, replacement, normal}
 use Rattle.protocol.specs.Pattern.{isStar, firstRun, laterRuns}
+use Rattle.protocol.proofs.Plain.{Clear, hex-not-star, escape-hex, replacement-clear}
 use Rattle.escapes.specs.Escapes.{taken}
-use Rattle.escapes.proofs.Sorts.{unreserved-not-star, hex-not-star, digit-not-star, upper-digit}
-use Rattle.escapes.proofs.Forms.{no-percent, escape-hex}
+use Rattle.escapes.proofs.Forms.{no-percent}
 use Rattle.normal.proofs.Steps.{normal-cons, normal-kept, by-replacements}
-
--- no star is among these octets
-abbrev Clear : List ℕ → Type 0
-Clear l = all (λ x. not (isStar x)) l ≡ true
-
--- a replacement that doesn't stand for a star holds none
-escape-clear : (d e : ℕ) → hex d ≡ true → hex e ≡ true → Clear (escape d e)
-unfolding escape all
-escape-clear d e h k =
-    split (unreserved (meant d e)) (λ u. rw (u, unreserved-not-star (meant d e) u))
-    (λ u. rw (u, upper-digit d h, digit-not-star (hexValue d), upper-digit e k, digit-not-star (hexValue e)))
-
-plain-clear : (c : ℕ) → isStar c ≡ false → Clear (plain true c)
-unfolding plain encoded all
-plain-clear c h =
-    split (isEncoded true c) (λ e. rw (e, digit-not-star (c / 16), digit-not-star (c % 16))) (λ e. rw (e, h))
-
-replacement-clear : (c : ℕ) (l : List ℕ) → isStar c ≡ false → Clear (replacement true c l)
-unfolding replacement isEscape escapeAt all
-replacement-clear c [] h = plain-clear c h
-replacement-clear c (d ∷ []) h = plain-clear c h
-replacement-clear c (d ∷ e ∷ l) h =
-    split (isEscape c (d ∷ e ∷ l)) (λ k. rw k (escape-clear d e (escape-hex c d e l k .0) (escape-hex c d e l k .1)))
-    (λ k. rw k (plain-clear c h))
 
 -- a star stands for itself
 module _ (c : ℕ) (l : List ℕ) (s : isStar c ≡ true) where
@@ -91,7 +66,7 @@ unfolding firstRun
 first-run-more c l h =
     split (isStar c) (λ s. rw (star-kept c l s, upTo-stop isStar c (normal true 0 l) s, upTo-stop isStar c l s) nothing)
     (λ s.
-    rw (normal-cons true c l, upTo-clear (λ x. not (isStar x)) isStar (λ x. not-true (isStar x)) (replacement true c l) _ (replacement-clear c l s), h, upTo-on isStar c l s, normal-cons true c (upTo isStar l), cut-replacement c l, cut-rest c l))
+    rw (normal-cons true c l, upTo-clear (λ x. not (isStar x)) isStar (λ x. not-true (isStar x)) (replacement true c l) _ (replacement-clear true c l (rw s)), h, upTo-on isStar c l s, normal-cons true c (upTo isStar l), cut-replacement c l, cut-rest c l))
 
 pub firstRun-normal : (raw : List ℕ) → firstRun (normal true 0 raw) ≡ normal true 0 (firstRun raw)
 unfolding firstRun normal upTo
@@ -124,7 +99,7 @@ later-runs-more : (c : ℕ) (l : List ℕ)
     → laterRuns (normal true 0 (c ∷ l)) ≡ map (normal true 0) (laterRuns (c ∷ l))
 later-runs-more c l h =
     split (isStar c) (λ s. later-runs-star c l s (rw (star-rest c l s) at h))
-    (λ s. rw (normal-cons true c l, runs-clear (replacement true c l) _ (replacement-clear c l s), runs-on c l s) h)
+    (λ s. rw (normal-cons true c l, runs-clear (replacement true c l) _ (replacement-clear true c l (rw s)), runs-on c l s) h)
 
 pub laterRuns-normal : (raw : List ℕ) → laterRuns (normal true 0 raw) ≡ map (normal true 0) (laterRuns raw)
 unfolding laterRuns normal

@@ -155,14 +155,14 @@ pub fn fits(stars: bool, s: &[u8], room: usize) -> bool
     size.fits
 }
 
-// One run of a pattern, raw, into the front of the scratch; nothing is written where it doesn't fit.
-pub fn normalise_run(run: &[u8], scratch: &mut [u8]) -> Written
-    ensures { λ r. ⌜ (r ≡ runOf (now (run .entry)) (now (scratch .entry))) × (now (scratch .exit) ≡ runScratch (now (run .entry)) (now (scratch .entry))) ⌝ }
+// One run of a pattern, raw, into the front of the scratch; nothing is written where it doesn't fit. A "*" in it is a star, or is none.
+pub fn normalise_run(stars: bool, run: &[u8], scratch: &mut [u8]) -> Written
+    ensures { λ r. ⌜ (r ≡ runOf stars (now (run .entry)) (now (scratch .entry))) × (now (scratch .exit) ≡ runScratch stars (now (run .entry)) (now (scratch .entry))) ⌝ }
 {
-    if !fits(true, run, scratch.len()) {
+    if !fits(stars, run, scratch.len()) {
         return Written::NoRoom;
     }
-    let n = write(true, run, scratch);
+    let n = write(stars, run, scratch);
     Written::Octets(n)
 }
 

@@ -12,6 +12,7 @@ use borrow.Author.Tests.{eqb-true}
 use Rattle.lists.specs.Occurs.{Occurs}
 use Rattle.lists.proofs.Bools.{split}
 use Rattle.lists.proofs.Places.{occurs-drop, occurs-front-in, occurs-upTo}
+use Rattle.protocol.specs.declared.Dialect.{Dialect}
 use Rattle.protocol.specs.declared.Place.{Place}
 use Rattle.protocol.specs.declared.Position.{Position}
 use Rattle.protocol.specs.declared.Side.{Side}
@@ -142,12 +143,12 @@ not-readable (Pattern.Readable p n) h = absurd (miss (0 ∷ 2 ∷ []) 1 tt h)
 not-readable (Pattern.Unreadable p n) h = refl
 
 -- a rule line at a position, and what its rule makes of what was considered
-module _ (file path : List ℕ) (at : Position) (side : Side) (pattern : Pattern) (k : Kind.Rule side pattern ≡ kindOf (textAt file (at .place))) (h : at .place .offset ≤ length file) (c : Considered) (applies : Bool) where
+module _ (d : Dialect) (file path : List ℕ) (at : Position) (side : Side) (pattern : Pattern) (k : Kind.Rule side pattern ≡ kindOf (textAt file (at .place))) (h : at .place .offset ≤ length file) (c : Considered) (applies : Bool) where
   abbrev kind : Kind
   kind = Kind.Rule side pattern
 
   abbrev After : Considered
-  After = consideredAll file path c (ruleHeard file applies (rule side) (entryAt at kind (rule side)))
+  After = consideredAll d file path c (ruleHeard file applies (rule side) (entryAt at kind (rule side)))
 
   readable-known : readablePattern (lineValue file (at .place) kind) ≡ isReadable pattern
   readable-known =
@@ -199,6 +200,6 @@ module _ (file path : List ℕ) (at : Position) (side : Side) (pattern : Pattern
         })
 
     pub rule-heard : applies ≡ true → (v : List ℕ) → v ≡ octetsAt file (placeAt start) n
-        → considered v path (record { line = at .number; side = side; place = placeAt start; length = n }) c ≡ After
+        → considered d v path (record { line = at .number; side = side; place = placeAt start; length = n }) c ≡ After
     unfolding consideredAll ruleHeard placeInFile
     rule-heard a v e = rw (g, a, e, readable, some-octet)

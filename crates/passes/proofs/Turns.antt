@@ -3,7 +3,7 @@ use Prim.Native.Nat.{ℕ, _+_, _*_, _≤_, _<_}
 use mathlib.Core.Path.{_≡_, refl, sym, ap, ap₂, _∙_}
 use mathlib.Core.Bool.{Bool, true, false, _&&_, _||_, false≢true}
 use mathlib.Core.List.{List, [], _∷_, _++_}
-use mathlib.Core.Option.{none, some}
+use mathlib.Core.Option.{none}
 use native.Mathlib.Omega.{arith}
 use types.Run.{OneOf, miss}
 use denote.Enum.Declared.{tagOf}
@@ -13,6 +13,7 @@ use borrow.Author.Tests.{ltb-true, ltb-false, not-true}
 use Rattle.lists.specs.Choice.{if_then_else_}
 use Rattle.lists.specs.Lists.{any, from}
 use Rattle.lists.proofs.Bools.{split, one-at-most}
+use Rattle.protocol.specs.declared.Dialect.{Dialect}
 use Rattle.protocol.specs.declared.LineNumber.{LineNumber}
 use Rattle.protocol.specs.declared.Place.{Place}
 use Rattle.protocol.specs.declared.Position.{Position}
@@ -22,8 +23,8 @@ use Rattle.protocol.specs.declared.Pattern.{Pattern}
 use Rattle.protocol.specs.declared.Kind.{Kind}
 use Rattle.protocol.specs.declared.Rule.{Rule}
 use Rattle.protocol.specs.declared.Audience.{Audience}
-use Rattle.protocol.specs.Lines.{Line, line, lineNumber, placeAt, placeAfter, skipped, numberAfter, lineText, linesFrom, linesOf}
-use Rattle.protocol.specs.Readable.{everyone, readablePattern}
+use Rattle.protocol.specs.Lines.{Line, line, lineNumber, placeAt, placeAfter, numberAfter, lineText, linesFrom, linesOf}
+use Rattle.protocol.specs.Readable.{readablePattern}
 use Rattle.protocol.specs.Kinds.{kindOf, placeOf, lengthOf, unreadableKind}
 use Rattle.protocol.specs.Entries.{agent, rule, Entry, roleOf, groupAt, ruledAfter, entryOf, entriesFrom, entries}
 use Rattle.protocol.specs.Rules.{valueOf, ruleOf, unreadable, audience}
@@ -40,16 +41,15 @@ use Rattle.considering.specs.declared.Considered.{Considered}
 use Rattle.considering.specs.Considering.{noneConsidered, consideredAll}
 use Rattle.hearing.specs.declared.Hearing.{Hearing}
 use Rattle.considering.proofs.Rooms.{considered-most}
-use Rattle.hearing.specs.Heard.{whom, firstOf, addressed, nothingHeard, afterAgent, afterRule}
+use Rattle.hearing.specs.Heard.{whom, nothingHeard, afterAgent, afterRule}
 use Rattle.passes.specs.declared.gather.Gathered.{Gathered}
-use Rattle.passes.specs.Entries.{heardAs, ruleHeard, rulesHeard, gatheredFrom, gathered, lineValue, valueEnd, roleNames, lineNames, lineAudience, heardOther, entryAt, told}
+use Rattle.passes.specs.Entries.{heardAs, ruleHeard, rulesHeard, gatheredFrom, gathered, lineValue, valueEnd, roleNames, lineNames, heardOther, entryAt, told}
 use Rattle.passes.specs.Steps.{firstLine, linesOn, linesPast, PassedLine, Jumped, firstRead, nextRead}
 use Rattle.passes.specs.declared.audience.Chosen.{Chosen}
 use Rattle.passes.specs.Choosing.{lineAt, knownAlone, ChosenOf}
 use Rattle.passes.proofs.Gathering.{gathered-heard, gathered-all}
-use Rattle.passes.proofs.Groups.{some-line-names}
 use Rattle.passes.proofs.Unheard.{unheard, unheard-any, unheard-line, unheard-from, unheard-none}
-use Rattle.passes.proofs.Heads.{isAgent, no-agent-named, first-no-agent, first-idle}
+use Rattle.passes.proofs.Heads.{no-agent-named, first-no-agent, first-idle}
 use Rattle.passes.proofs.Lines.{entry-end, entry-rule, octets-most, value-end-inside, agent-unread, rule-unread}
 
 -- a line without a role has no entry
@@ -143,11 +143,11 @@ abbrev pub lineBehind : List ℕ → Position → Position
 lineBehind file r = record { number = numberAfter (r .number) 1; place = nextAt file (r .place) }
 
 -- what is left to be gathered from a position on, whatever the group above is
-abbrev Left : List ℕ → List ℕ → List ℕ → Bool → Hearing → Considered → Position → Gathered → Type 0
-Left file who path whole heard c p g =
-    (above : ℕ) × (ruled : Bool) × (told whole (gatheredFrom file who path heard c (entriesFrom above ruled (linesOn file p))) ≡ told whole g)
+abbrev Left : Dialect → List ℕ → List ℕ → List ℕ → Bool → Hearing → Considered → Position → Gathered → Type 0
+Left d file who path whole heard c p g =
+    (above : ℕ) × (ruled : Bool) × (told whole (gatheredFrom d file who path heard c (entriesFrom above ruled (linesOn file p))) ≡ told whole g)
 
-module _ (file who path : List ℕ) (whole : Bool) (heard : Hearing) (c : Considered) (p : Position) (g : Gathered) (left : Left file who path whole heard c p g) where
+module _ (d : Dialect) (file who path : List ℕ) (whole : Bool) (heard : Hearing) (c : Considered) (p : Position) (g : Gathered) (left : Left d file who path whole heard c p g) where
   -- nothing at the file's end
   pub left-none : length file ≤ p .place .offset → record { considered = c; unread = if whole then heard .unread else 0 } ≡ told whole g
   unfolding gatheredFrom entriesFrom
@@ -157,9 +157,9 @@ module _ (file who path : List ℕ) (whole : Bool) (heard : Hearing) (c : Consid
     -- a line that gives what its entry does
     left-by : (heard' : Hearing) (c' : Considered)
         → ((es : List Entry) (above : ℕ) (ruled : Bool)
-        → gatheredFrom file who path heard' c' es
-        ≡ gatheredFrom file who path heard c (entryOf (groupAt above ruled (roleOf (kind file p h))) (here file p h) (kind file p h) (roleOf (kind file p h)) ++ es))
-        → Left file who path whole heard' c' (lineBehind file r) g
+        → gatheredFrom d file who path heard' c' es
+        ≡ gatheredFrom d file who path heard c (entryOf (groupAt above ruled (roleOf (kind file p h))) (here file p h) (kind file p h) (roleOf (kind file p h)) ++ es))
+        → Left d file who path whole heard' c' (lineBehind file r) g
     left-by heard' c' same =
         let above = left .0 in
         let ruled = left .1 in
@@ -168,19 +168,19 @@ module _ (file who path : List ℕ) (whole : Bool) (heard : Hearing) (c : Consid
           group,
           rest,
           ap (told whole)
-              (ap (gatheredFrom file who path heard' c') (past .entries group rest)
+              (ap (gatheredFrom d file who path heard' c') (past .entries group rest)
               ∙ same (entriesFrom group rest (linesPast file p)) above ruled
-              ∙ ap (gatheredFrom file who path heard c) (sym (entries-here file p h above ruled)))
+              ∙ ap (gatheredFrom d file who path heard c) (sym (entries-here file p h above ruled)))
               ∙ left .2,
         )
 
     -- a line that is no rule line
     left-other : (k : Kind) → k ≡ entryKind (kind file p h) → OneOf (0 ∷ 1 ∷ 2 ∷ 3 ∷ []) (tagOf K.the-type k)
-        → Left file who path whole (heardOther file who (p .place) k heard) c (lineBehind file r) g
+        → Left d file who path whole (heardOther file who (p .place) k heard) c (lineBehind file r) g
     unfolding gatheredFrom consideredAll ruleHeard entryOf roleOf
     left-other k e o =
         left-by (heardOther file who (p .place) k heard) c
-        (λ es above ruled. go es above ruled k o ∙ ap (λ (l : List Entry). gatheredFrom file who path heard c (l ++ es)) (told above ruled))
+        (λ es above ruled. go es above ruled k o ∙ ap (λ (l : List Entry). gatheredFrom d file who path heard c (l ++ es)) (told above ruled))
       where
         told : (above : ℕ) (ruled : Bool)
             → entryOf (groupAt above ruled (roleOf k)) (here file p h) k (roleOf k)
@@ -188,8 +188,8 @@ module _ (file who path : List ℕ) (whole : Bool) (heard : Hearing) (c : Consid
         told above ruled = rw e (entry-of above ruled (here file p h) (kind file p h))
 
         go : (es : List Entry) (above : ℕ) (ruled : Bool) (k : Kind) → OneOf (0 ∷ 1 ∷ 2 ∷ 3 ∷ []) (tagOf K.the-type k)
-            → gatheredFrom file who path (heardOther file who (p .place) k heard) c es
-            ≡ gatheredFrom file who path heard c (entryOf (groupAt above ruled (roleOf k)) (here file p h) k (roleOf k) ++ es)
+            → gatheredFrom d file who path (heardOther file who (p .place) k heard) c es
+            ≡ gatheredFrom d file who path heard c (entryOf (groupAt above ruled (roleOf k)) (here file p h) k (roleOf k) ++ es)
         go es above ruled Kind.Blank o = refl
         go es above ruled Kind.Noise o = refl
         go es above ruled Kind.Other o = refl
@@ -198,22 +198,22 @@ module _ (file who path : List ℕ) (whole : Bool) (heard : Hearing) (c : Consid
 
     -- a rule line
     left-rule : (side : Side) (q : Pattern) → Kind.Rule side q ≡ kind file p h
-        → Left file who path whole (heardAs who (rule side) (lineValue file (p .place) (Kind.Rule side q)) heard)
-        (consideredAll file path c (ruleHeard file (heard .applies) (rule side) (entryAt p (Kind.Rule side q) (rule side))))
+        → Left d file who path whole (heardAs who (rule side) (lineValue file (p .place) (Kind.Rule side q)) heard)
+        (consideredAll d file path c (ruleHeard file (heard .applies) (rule side) (entryAt p (Kind.Rule side q) (rule side))))
         (lineBehind file r)
         g
     unfolding gatheredFrom ruleHeard entryOf roleOf
     left-rule side q e =
         left-by (heardAs who (rule side) (lineValue file (p .place) (Kind.Rule side q)) heard)
-        (consideredAll file path c (ruleHeard file (heard .applies) (rule side) (entryAt p (Kind.Rule side q) (rule side))))
+        (consideredAll d file path c (ruleHeard file (heard .applies) (rule side) (entryAt p (Kind.Rule side q) (rule side))))
         (λ es above ruled. rw (← e))
 
 -- all is left at the first line
-pub left-all : (file crawler : List ℕ) (a : Audience) (path : List ℕ)
-    → gatheredFrom file (whom a crawler) path nothingHeard noneConsidered (entriesFrom 0 false (linesOn file (firstLine file))) ≡ gathered file crawler a path
+pub left-all : (d : Dialect) (file crawler : List ℕ) (a : Audience) (path : List ℕ)
+    → gatheredFrom d file (whom a crawler) path nothingHeard noneConsidered (entriesFrom 0 false (linesOn file (firstLine file))) ≡ gathered d file crawler a path
 unfolding entries
-left-all file crawler a path =
-    ap (λ (ls : List Line). gatheredFrom file (whom a crawler) path nothingHeard noneConsidered (entriesFrom 0 false ls)) (sym (lines-all file)) ∙ gathered-all file crawler a path
+left-all d file crawler a path =
+    ap (λ (ls : List Line). gatheredFrom d file (whom a crawler) path nothingHeard noneConsidered (entriesFrom 0 false ls)) (sym (lines-all file)) ∙ gathered-all d file crawler a path
 
 -- a line that is jumped to is asked as the one there, with its number
 jumped-on : {X : Type 0} (ask : List Line → X) (file : List ℕ) (p : Position) (q : Place) (r : Position) → Jumped file p q r
@@ -259,22 +259,22 @@ pub jumped-further : (file : List ℕ) (p : Position) (only : Bool) → p .place
 jumped-further file p only h q j = omega (arith, ap (λ (x : Place). x .offset) (j .place), next-read-further file (p .place) only h)
 
 -- where no group applies, what is left is told by the rules that are heard of the lines
-left-told : (file who path : List ℕ) (heard : Hearing) (c : Considered) (above : ℕ) (ruled : Bool) (ls : List Line) → heard .applies ≡ false
-    → told false (gatheredFrom file who path heard c (entriesFrom above ruled ls)) ≡ record { considered = consideredAll file path c (unheard file who ls); unread = 0 }
-left-told file who path heard c above ruled ls a =
-    ap (told false) (gathered-heard file who path heard c (entriesFrom above ruled ls))
-    ∙ ap (λ (rs : List Rule). record { considered = consideredAll file path c rs; unread = 0 }) (unheard-any file who ls heard above ruled a)
+left-told : (d : Dialect) (file who path : List ℕ) (heard : Hearing) (c : Considered) (above : ℕ) (ruled : Bool) (ls : List Line) → heard .applies ≡ false
+    → told false (gatheredFrom d file who path heard c (entriesFrom above ruled ls)) ≡ record { considered = consideredAll d file path c (unheard file who ls); unread = 0 }
+left-told d file who path heard c above ruled ls a =
+    ap (told false) (gathered-heard d file who path heard c (entriesFrom above ruled ls))
+    ∙ ap (λ (rs : List Rule). record { considered = consideredAll d file path c rs; unread = 0 }) (unheard-any file who ls heard above ruled a)
 
 -- so lines of which no rule is heard may be passed over
-left-passed : (file who path : List ℕ) (whole : Bool) (heard : Hearing) (c : Considered) (g : Gathered) → whole ≡ false → heard .applies ≡ false → (ls ms : List Line)
+left-passed : (d : Dialect) (file who path : List ℕ) (whole : Bool) (heard : Hearing) (c : Considered) (g : Gathered) → whole ≡ false → heard .applies ≡ false → (ls ms : List Line)
     → unheard file who ls ≡ unheard file who ms → (above : ℕ) (ruled : Bool)
-    → told whole (gatheredFrom file who path heard c (entriesFrom above ruled ls)) ≡ told whole g
-    → told whole (gatheredFrom file who path heard c (entriesFrom 0 false ms)) ≡ told whole g
-left-passed file who path true heard c g w a ls ms e above ruled l = absurd (false≢true (sym w))
-left-passed file who path false heard c g w a ls ms e above ruled l =
-    left-told file who path heard c 0 false ms a
-    ∙ ap (λ (rs : List Rule). record { considered = consideredAll file path c rs; unread = 0 }) (sym e)
-    ∙ sym (left-told file who path heard c above ruled ls a)
+    → told whole (gatheredFrom d file who path heard c (entriesFrom above ruled ls)) ≡ told whole g
+    → told whole (gatheredFrom d file who path heard c (entriesFrom 0 false ms)) ≡ told whole g
+left-passed d file who path true heard c g w a ls ms e above ruled l = absurd (false≢true (sym w))
+left-passed d file who path false heard c g w a ls ms e above ruled l =
+    left-told d file who path heard c 0 false ms a
+    ∙ ap (λ (rs : List Rule). record { considered = consideredAll d file path c rs; unread = 0 }) (sym e)
+    ∙ sym (left-told d file who path heard c above ruled ls a)
     ∙ l
 
 -- a line that begins with no space, tab or "u" is no agent line: no rule is heard of it
@@ -316,20 +316,20 @@ other-unread file who p (Kind.Agent a) h = omega (arith, one-at-most (unreadable
 other-unread file who p (Kind.Rule side q) h = omega arith
 
 -- and at most 18,426 pairs for each octet of its value to those compared
-rule-compared : (file path : List ℕ) → length path ≤ 6_142 → (c : Considered) (applies : Bool) (side : Side) (e : Entry)
-    → consideredAll file path c (ruleHeard file applies (rule side) e) .compared ≤ c .compared + 18_426 * e .length
+rule-compared : (d : Dialect) (file path : List ℕ) → length path ≤ 6_142 → (c : Considered) (applies : Bool) (side : Side) (e : Entry)
+    → consideredAll d file path c (ruleHeard file applies (rule side) e) .compared ≤ c .compared + 18_426 * e .length
 unfolding consideredAll ruleHeard
-rule-compared file path short c applies side e =
+rule-compared d file path short c applies side e =
     split (applies && readablePattern (valueOf file e))
     (λ b.
     let few : length (valueOf file e) ≤ e .length = octets-most file (e .place) (e .length) in
-    rw b (omega (arith, few, considered-most (valueOf file e) path short (ruleOf side e) c)))
+    rw b (omega (arith, few, considered-most d (valueOf file e) path short (ruleOf side e) c)))
     (λ b. rw b (omega arith))
 
 -- what holds where the loop has come to p: what is left gives the whole, the numbers are bounded by the place, and no other line names who where
 -- that is known
-pub record Reached (file who path scratch₀ scratch : List ℕ) (whole only : Bool) (heard : Hearing) (c : Considered) (p : Position) (g : Gathered) : Type 0 where
-  pub left : Left file who path whole heard c p g
+pub record Reached (d : Dialect) (file who path scratch₀ scratch : List ℕ) (whole only : Bool) (heard : Hearing) (c : Considered) (p : Position) (g : Gathered) : Type 0 where
+  pub left : Left d file who path whole heard c p g
   pub same : length scratch ≡ length scratch₀
   pub counted : p .number .number ≤ p .place .offset + 1
   pub compared : c .compared ≤ 18_426 * p .place .offset
@@ -350,25 +350,25 @@ alone-told Audience.Everyone others e = not-true others e
 alone-told Audience.Nobody others e = not-true others e
 
 -- at the first line that is read all is left, and no line behind it names who where that is known
-module _ (file crawler path : List ℕ) (ch : Chosen) (of : ChosenOf file crawler (ch .audience) ch) where
+module _ (d : Dialect) (file crawler path : List ℕ) (ch : Chosen) (of : ChosenOf file crawler (ch .audience) ch) where
   abbrev who : List ℕ
   who = whom (ch .audience) crawler
 
   abbrev all : Gathered
-  all = gathered file crawler (ch .audience) path
+  all = gathered d file crawler (ch .audience) path
 
   pub left-first : (whole : Bool) (p : Position) → Jumped file (firstLine file) (firstRead file whole (ch .first)) p
-      → Left file who path whole nothingHeard noneConsidered p all
+      → Left d file who path whole nothingHeard noneConsidered p all
   left-first true p j =
-      let ask : List Line → Gathered = λ ls. gatheredFrom file who path nothingHeard noneConsidered (entriesFrom 0 false ls) in
-      (0, false, sym (jumped-on ask file (firstLine file) (firstLine file .place) p j) ∙ ap (λ (x : Position). ask (linesOn file x)) (first-at file) ∙ left-all file crawler (ch .audience) path)
+      let ask : List Line → Gathered = λ ls. gatheredFrom d file who path nothingHeard noneConsidered (entriesFrom 0 false ls) in
+      (0, false, sym (jumped-on ask file (firstLine file) (firstLine file .place) p j) ∙ ap (λ (x : Position). ask (linesOn file x)) (first-at file) ∙ left-all d file crawler (ch .audience) path)
   left-first false p j =
       let start : unheard file who (linesOn file (firstLine file)) ≡ unheard file who (from (lineNames file who) (linesOf file))
       = ap (unheard file who) (sym (lines-all file)) ∙ unheard-from file who (linesOf file) in
       let there : unheard file who (from (lineNames file who) (linesOf file)) ≡ unheard file who (linesOn file p)
       = ap (unheard file who) (of .first)
       ∙ jumped-on (unheard file who) file (firstLine file) (ch .first) p j in
-      (0, false, left-passed file who path false nothingHeard noneConsidered all refl refl (linesOn file (firstLine file)) (linesOn file p) (start ∙ there) 0 false (ap (told false) (left-all file crawler (ch .audience) path)))
+      (0, false, left-passed d file who path false nothingHeard noneConsidered all refl refl (linesOn file (firstLine file)) (linesOn file p) (start ∙ there) 0 false (ap (told false) (left-all d file crawler (ch .audience) path)))
 
   pub alone-first : (whole : Bool) (p : Position) → Jumped file (firstLine file) (firstRead file whole (ch .first)) p
       → whole ≡ false → ch .only ≡ true → p .place .offset < length file → any (lineNames file who) (linesPast file p) ≡ false
@@ -378,20 +378,20 @@ module _ (file crawler path : List ℕ) (ch : Chosen) (of : ChosenOf file crawle
       let same : p ≡ lineAt file (ch .first) = ap₂ (λ (n : LineNumber) (x : Place). record { number = n; place = x }) (j .number (omega (arith, h, there))) (j .place) in
       ap (λ (x : Position). any (lineNames file who) (linesPast file x)) same ∙ alone-told (ch .audience) _ (sym (of .only) ∙ o)
 
-module _ (file who path scratch₀ scratch : List ℕ) (whole only : Bool) (heard : Hearing) (c : Considered) (p : Position) (g : Gathered) (now : Reached file who path scratch₀ scratch whole only heard c p g) (h : p .place .offset < length file) (r : Position) (past : PassedLine file p r) (k : Kind) (s : k ≡ entryKind (kindOf (textAt file (p .place)))) where
+module _ (d : Dialect) (file who path scratch₀ scratch : List ℕ) (whole only : Bool) (heard : Hearing) (c : Considered) (p : Position) (g : Gathered) (now : Reached d file who path scratch₀ scratch whole only heard c p g) (h : p .place .offset < length file) (r : Position) (past : PassedLine file p r) (k : Kind) (s : k ≡ entryKind (kindOf (textAt file (p .place)))) where
   -- no line behind it names who, where that is known
   alone-past : whole ≡ false → only ≡ true → lineBehind file r .place .offset < length file → any (lineNames file who) (linesPast file (lineBehind file r)) ≡ false
   alone-past w o i = behind-alone file who (lineBehind file r) (past .named who ∙ now .alone w o h) i
 
   -- past a line that is no rule line, to the next line,
   module _ (o : OneOf (0 ∷ 1 ∷ 2 ∷ 3 ∷ []) (tagOf K.the-type k)) (heard' : Hearing) (t : heard' ≡ heardOther file who (p .place) k heard) where
-    left-here : Left file who path whole heard' c (lineBehind file r) g
-    left-here = rw t (left-other file who path whole heard c p g (now .left) h r past k s o)
+    left-here : Left d file who path whole heard' c (lineBehind file r) g
+    left-here = rw t (left-other d file who path whole heard c p g (now .left) h r past k s o)
 
     few-unread : heard' .unread ≤ p .place .offset + 1
     few-unread = rw t (omega (arith, now .unread, other-unread file who (p .place) k heard))
 
-    pub reached-other : (q : Position) → q ≡ lineBehind file r → Reached file who path scratch₀ scratch whole only heard' c q g
+    pub reached-other : (q : Position) → q ≡ lineBehind file r → Reached d file who path scratch₀ scratch whole only heard' c q g
     reached-other q e =
         rw e
         (record {
@@ -404,16 +404,16 @@ module _ (file who path scratch₀ scratch : List ℕ) (whole only : Bool) (hear
         })
 
     -- or to the next that is read, where no group applies
-    left-skipped : whole ≡ false → heard' .applies ≡ false → (q : Position) → Jumped file p (nextRead file (p .place) only) q → Left file who path whole heard' c q g
+    left-skipped : whole ≡ false → heard' .applies ≡ false → (q : Position) → Jumped file p (nextRead file (p .place) only) q → Left d file who path whole heard' c q g
     left-skipped w a q j =
         let above = left-here .0 in
         let ruled = left-here .1 in
-        let same : told whole (gatheredFrom file who path heard' c (entriesFrom above ruled (linesPast file p))) ≡ told whole g
-        = ap (λ (es : List Entry). told whole (gatheredFrom file who path heard' c es)) (sym (past .entries above ruled)) ∙ left-here .2 in
-        (0, false, left-passed file who path whole heard' c g w a (linesPast file p) (linesOn file q) (skipped-unheard file who p q only h (λ o. now .alone w o h) j) above ruled same)
+        let same : told whole (gatheredFrom d file who path heard' c (entriesFrom above ruled (linesPast file p))) ≡ told whole g
+        = ap (λ (es : List Entry). told whole (gatheredFrom d file who path heard' c es)) (sym (past .entries above ruled)) ∙ left-here .2 in
+        (0, false, left-passed d file who path whole heard' c g w a (linesPast file p) (linesOn file q) (skipped-unheard file who p q only h (λ o. now .alone w o h) j) above ruled same)
 
     pub reached-skip : whole ≡ false → heard' .applies ≡ false → (q : Position) → Jumped file p (nextRead file (p .place) only) q
-        → Reached file who path scratch₀ scratch whole only heard' c q g
+        → Reached d file who path scratch₀ scratch whole only heard' c q g
     reached-skip w a q j =
         let place : q .place .offset ≡ nextRead file (p .place) only .offset = ap (λ (x : Place). x .offset) (j .place) in
         let on : p .place .offset < q .place .offset = jumped-further file p only h q j in
@@ -436,21 +436,21 @@ module _ (file who path scratch₀ scratch : List ℕ) (whole only : Bool) (hear
     rule-heard-as b t = ap (λ (b : Bool). afterRule b heard) (t ∙ sym (rule-unread file (p .place) (omega arith) k s side pattern m))
 
     few-pairs : length path ≤ 6_142
-        → consideredAll file path c (ruleHeard file (heard .applies) (rule side) (entryAt p (Kind.Rule side pattern) (rule side))) .compared
+        → consideredAll d file path c (ruleHeard file (heard .applies) (rule side) (entryAt p (Kind.Rule side pattern) (rule side))) .compared
         ≤ 18_426 * nextAt file (r .place) .offset
     few-pairs short =
         let ends : valueEnd (p .place) (Kind.Rule side pattern) .offset ≤ nextAt file (r .place) .offset = rw is-rule at (past .value) in
-        omega (arith, ends, now .compared, rule-compared file path short c (heard .applies) side (entryAt p (Kind.Rule side pattern) (rule side)))
+        omega (arith, ends, now .compared, rule-compared d file path short c (heard .applies) side (entryAt p (Kind.Rule side pattern) (rule side)))
 
     pub reached-rule : length path ≤ 6_142 → (b : Bool) → b ≡ unreadableKind (Kind.Rule side pattern)
         → (heard' : Hearing) → heard' ≡ afterRule b heard → (c' : Considered)
-        → c' ≡ consideredAll file path c (ruleHeard file (heard .applies) (rule side) (entryAt p (Kind.Rule side pattern) (rule side)))
+        → c' ≡ consideredAll d file path c (ruleHeard file (heard .applies) (rule side) (entryAt p (Kind.Rule side pattern) (rule side)))
         → (scratch' : List ℕ) → length scratch' ≡ length scratch → (q : Position) → q ≡ lineBehind file r
-        → Reached file who path scratch₀ scratch' whole only heard' c' q g
+        → Reached d file who path scratch₀ scratch' whole only heard' c' q g
     reached-rule short b t heard' u c' v scratch' w q e =
         rw (e, v, u)
         (record {
-          left = rw (rule-heard-as b t) (left-rule file who path whole heard c p g (now .left) h r past side pattern (sym is-rule));
+          left = rw (rule-heard-as b t) (left-rule d file who path whole heard c p g (now .left) h r past side pattern (sym is-rule));
           same = w ∙ now .same;
           counted = past .counted;
           compared = few-pairs short;

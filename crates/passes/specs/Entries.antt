@@ -5,6 +5,7 @@ use mathlib.Core.List.{List, [], _∷_, _++_}
 use mathlib.Core.Option.{Option, none, some}
 use Rattle.lists.specs.Choice.{if_then_else_}
 use Rattle.protocol.specs.declared.Rule.{Rule}
+use Rattle.protocol.specs.declared.Dialect.{Dialect}
 use Rattle.protocol.specs.declared.Audience.{Audience}
 use Rattle.protocol.specs.declared.Kind.{Kind}
 use Rattle.protocol.specs.Text.{octetsAt}
@@ -39,16 +40,16 @@ rulesHeard file who h [] = []
 rulesHeard file who h (e ∷ es) = ruleHeard file (h .applies) (e .role) e ++ rulesHeard file who (heardAs who (e .role) (valueOf file e) h) es
 
 -- what is gathered of the entries that are left
-unfoldable pub gatheredFrom : List ℕ → List ℕ → List ℕ → Hearing → Considered → List Entry → Gathered
-gatheredFrom file who path h c [] = record { considered = c; unread = h .unread }
-gatheredFrom file who path h c (e ∷ es) =
-    gatheredFrom file who path (heardAs who (e .role) (valueOf file e) h) (consideredAll file path c (ruleHeard file (h .applies) (e .role) e)) es
+unfoldable pub gatheredFrom : Dialect → List ℕ → List ℕ → List ℕ → Hearing → Considered → List Entry → Gathered
+gatheredFrom d file who path h c [] = record { considered = c; unread = h .unread }
+gatheredFrom d file who path h c (e ∷ es) =
+    gatheredFrom d file who path (heardAs who (e .role) (valueOf file e) h) (consideredAll d file path c (ruleHeard file (h .applies) (e .role) e)) es
 
 -- what is gathered of a file: what the readable rules of an audience's groups come to for a path, and the unread count
-unfoldable pub gathered : List ℕ → List ℕ → Audience → List ℕ → Gathered
-gathered file crawler a path =
+unfoldable pub gathered : Dialect → List ℕ → List ℕ → Audience → List ℕ → Gathered
+gathered d file crawler a path =
     record {
-      considered = consideredAll file path noneConsidered (readableRules file (rulesFor file (entries file) crawler a));
+      considered = consideredAll d file path noneConsidered (readableRules file (rulesFor file (entries file) crawler a));
       unread = unread file (entries file);
     }
 

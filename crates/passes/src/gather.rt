@@ -25,6 +25,7 @@ use kinds::entry::Entry;
 use protocol::Agent;
 use protocol::Audience;
 use protocol::ClassTable;
+use protocol::Dialect;
 use protocol::Kind;
 use protocol::LineNumber;
 use protocol::Pattern;
@@ -80,6 +81,7 @@ fn hear_other(
 
 // After a rule line: a readable rule of a group that applies is considered.
 fn consider_rule(
+    dialect: Dialect,
     c: Considered,
     applies: bool,
     file: &[u8],
@@ -90,7 +92,7 @@ fn consider_rule(
     scratch: &mut [u8],
 ) -> Considered
     requires { ⌜ (Kind.Rule side pattern ≡ kindOf (textAt (now file) (at .place))) × Room (now file) (now path) (now scratch) (at .place) c ⌝ }
-    ensures { λ r. ⌜ r ≡ consideredAll (now (file .entry)) (now (path .entry)) c (ruleHeard (now (file .entry)) applies (rule side) (entryAt at (Kind.Rule side pattern) (rule side))) ⌝ }
+    ensures { λ r. ⌜ r ≡ consideredAll dialect (now (file .entry)) (now (path .entry)) c (ruleHeard (now (file .entry)) applies (rule side) (entryAt at (Kind.Rule side pattern) (rule side))) ⌝ }
     ensures { λ _. ⌜ length (now (scratch .exit)) ≡ length (now (scratch .entry)) ⌝ }
 {
     let Pattern::Readable(place, length) = pattern else {
@@ -108,7 +110,7 @@ fn consider_rule(
         place: Place { offset: start },
         length,
     };
-    considering::consider(c, rule, &file[start..end], path, scratch)
+    considering::consider(dialect, c, rule, &file[start..end], path, scratch)
 }
 
 // Past whole blocks without an agent or rule line, unless it is too soon to look for them.
@@ -224,6 +226,7 @@ fn tell(c: Considered, unread: usize, whole: bool) -> Gathered
 // After all lines of a file, for those whose groups apply. Only for the unread count is the whole file read.
 pub fn gather(
     classes: &ClassTable,
+    dialect: Dialect,
     file: &[u8],
     whole: bool,
     chosen: Chosen,
@@ -232,7 +235,7 @@ pub fn gather(
     scratch: &mut [u8],
 ) -> Gathered
     requires { ⌜ (now classes ≡ classTable) × ChosenOf (now file) (now name) (chosen .audience) chosen × (length (now file) ≤ 512000) × (length (now path) ≤ 6142) × (length (now path) ≤ length (now scratch)) ⌝ }
-    ensures { λ r. ⌜ r ≡ told whole (gathered (now (file .entry)) (now (name .entry)) (chosen .audience) (now (path .entry))) ⌝ }
+    ensures { λ r. ⌜ r ≡ told whole (gathered dialect (now (file .entry)) (now (name .entry)) (chosen .audience) (now (path .entry))) ⌝ }
     ensures { λ _. ⌜ length (now (scratch .exit)) ≡ length (now (scratch .entry)) ⌝ }
 {
     let audience = chosen.audience;
@@ -255,7 +258,17 @@ pub fn gather(
             }
             continue;
         };
-        c = consider_rule(c, h.applies, file, here, side, pattern, path, scratch);
+        c = consider_rule(
+            dialect,
+            c,
+            h.applies,
+            file,
+            here,
+            side,
+            pattern,
+            path,
+            scratch,
+        );
         h = hearing::hear_rule(h, is_unread_rule(side, pattern));
     }
     tell(c, h.unread, whole)

@@ -11,13 +11,14 @@ use Rattle.lists.specs.Lists.{total}
 use Rattle.lists.proofs.Bools.{split}
 use Rattle.lists.proofs.Members.{total-bound}
 use Rattle.lists.proofs.Tests.{same-equal}
+use Rattle.protocol.specs.declared.Dialect.{Dialect}
 use Rattle.protocol.specs.Text.{octets}
 use Rattle.protocol.specs.Entries.{Entry}
 use Rattle.protocol.specs.declared.Rule.{Rule}
 use Rattle.protocol.specs.Rules.{applying, unread}
-use Rattle.protocol.specs.Pattern.{shapeOf}
+use Rattle.protocol.specs.Pattern.{shapeIn}
 use Rattle.protocol.specs.Walk.{walk}
-use Rattle.protocol.specs.Decision.{patternOf, readableRules, weightOf, walkOf, comparedBy, matching, deciding, decidedBy, isRobotsFile, decidedAmong, answered}
+use Rattle.protocol.specs.Decision.{patternOf, readableRules, weightIn, walkOf, matching, deciding, walked, comparedBy, decidedBy, isRobotsFile, decidedAmong, answered}
 use Rattle.protocol.proofs.Counted.{walk-bound}
 
 -- "/robots.txt?x isn't that path": only /robots.txt is.
@@ -42,47 +43,50 @@ module _ (u c : ℕ) where
   decidedBy-compared none = refl
   decidedBy-compared (some r) = refl
 
-module _ (file : List ℕ) (es : List Entry) (name path : List ℕ) where
+module _ (d : Dialect) (file : List ℕ) (es : List Entry) (name path : List ℕ) where
   -- the readable rules that apply
-  abbrev walked : List Rule
-  walked = readableRules file (applying file es name)
+  abbrev readable : List Rule
+  readable = readableRules file (applying file es name)
 
-  pub answered-robots : isRobotsFile path ≡ true → answered file es name path ≡ decidedBy none (unread file es) 0
+  pub answered-robots : isRobotsFile path ≡ true → answered d file es name path ≡ decidedBy none (unread file es) 0
   unfolding answered
   answered-robots e = rw e
 
   pub answered-other : isRobotsFile path ≡ false
-      → answered file es name path ≡ decidedBy (deciding file (matching file path walked)) (unread file es) (comparedBy file path walked)
+      → answered d file es name path ≡ decidedBy (deciding d file (matching d file path readable)) (unread file es) (comparedBy d file path readable)
   unfolding answered decidedAmong
   answered-other e = rw e
 
   -- either way it is a decision with the whole file's unread count
-  answered-by : (o : Option Rule) × (c : ℕ) × (answered file es name path ≡ decidedBy o (unread file es) c)
+  answered-by : (o : Option Rule) × (c : ℕ) × (answered d file es name path ≡ decidedBy o (unread file es) c)
   answered-by =
       split (isRobotsFile path) (λ e. (none, 0, answered-robots e))
-      (λ e. (deciding file (matching file path walked), comparedBy file path walked, answered-other e))
+      (λ e. (deciding d file (matching d file path readable), comparedBy d file path readable, answered-other e))
 
-  pub answered-refusal : answered file es name path .refusal ≡ 0
+  pub answered-refusal : answered d file es name path .refusal ≡ 0
   answered-refusal = let (o, c, e) = answered-by in rw e (decidedBy-refusal (unread file es) c o)
 
   -- "The unread count is the number of unreadable agent and rule lines in the whole file", for /robots.txt too.
-  pub answered-unread : answered file es name path .unread ≡ unread file es
+  pub answered-unread : answered d file es name path .unread ≡ unread file es
   answered-unread = let (o, c, e) = answered-by in rw e (decidedBy-unread (unread file es) c o)
 
-  -- "the sum of such walks' numbers, one walk for each readable rule that applies,
+  -- "the sum of such walks' numbers, one walk for each" rule that is walked,
   pub answered-compared : isRobotsFile path ≡ false
-      → answered file es name path .compared ≡ total (λ r. walk (shapeOf (patternOf file r)) path .count) (readableRules file (applying file es name))
+      → answered d file es name path .compared
+      ≡ total (λ r. walk (shapeIn d (patternOf file r)) path .count) (walked d file path (readableRules file (applying file es name)))
   unfolding comparedBy walkOf
-  answered-compared e = rw (answered-other e) (decidedBy-compared (unread file es) (comparedBy file path walked) _)
+  answered-compared e = rw (answered-other e) (decidedBy-compared (unread file es) (comparedBy d file path readable) _)
 
   -- or 0 if the normalised path is /robots.txt"
-  pub answered-compared-robots : isRobotsFile path ≡ true → answered file es name path .compared ≡ 0
+  pub answered-compared-robots : isRobotsFile path ≡ true → answered d file es name path .compared ≡ 0
   answered-compared-robots e = rw (answered-robots e) (decidedBy-compared (unread file es) 0 none)
 
   -- "It is at most the summed weights of those rules, times the octets of the normalised path."
-  pub answered-bound : answered file es name path .compared ≤ total (weightOf file) (readableRules file (applying file es name)) * length path
-  unfolding weightOf
+  pub answered-bound : answered d file es name path .compared
+      ≤ total (weightIn d file) (walked d file path (readableRules file (applying file es name))) * length path
+  unfolding weightIn
   answered-bound =
-      let count : Rule → ℕ = λ r. walk (shapeOf (patternOf file r)) path .count in
-      let bound = total-bound count (weightOf file) (length path) (λ r. walk-bound (shapeOf (patternOf file r)) path) walked in
+      let count : Rule → ℕ = λ r. walk (shapeIn d (patternOf file r)) path .count in
+      let bound
+      = total-bound count (weightIn d file) (length path) (λ r. walk-bound (shapeIn d (patternOf file r)) path) (walked d file path readable) in
       split (isRobotsFile path) (λ e. omega (arith, answered-compared-robots e)) (λ e. omega (arith, answered-compared e))

@@ -1,5 +1,5 @@
 -- Names for what has to unfold so that the definitions compute: a proof by computation says `unfolding computing`. Assumes nothing.
-use Rattle.lists.specs.Lists.{all, any, kept, upTo, from, total, numbersFrom, same}
+use Rattle.lists.specs.Lists.{all, any, kept, upTo, from, through, total, numbersFrom, same}
 use Rattle.protocol.specs.Octets.{upper, lower, digit, token, unreserved, hex, blank, lineEnd, lowerCase, upperCase, hexValue, hexDigit}
 use Rattle.protocol.specs.Text.{octets, begins, ends, sameIgnoringCase, lead, unlessAtEnd, trimEnd, trim, octetsAt}
 use Rattle.protocol.specs.Lines.{endingLength, lineLength, linesFrom, hasLeadingMark, linesOf}
@@ -8,16 +8,16 @@ use Rattle.protocol.specs.Kinds.{agentAt, patternAt, fieldKind, recordKi
 use Rattle.protocol.specs.Entries.{roleOf, groupAt, ruledAfter, placeInFile, entryOf, entriesFrom, entries}
 use Rattle.protocol.specs.Rules.{namedBy, someGroupNames, groupNames, ruleIn, rulesIn, audience, groupFor, applying, unreadable, unread}
 use Rattle.protocol.specs.Normal.{encoded, meant, escape, isEscape, escapeAt, special, plain, replacement, normal, normalPath}
-use Rattle.protocol.specs.Pattern.{rawText, shapeOf, weight, firstRun, laterRuns}
+use Rattle.protocol.specs.Pattern.{rawText, shapeOf, shapeIn, weight, firstRun, laterRuns}
 use Rattle.protocol.specs.Walk.{tried, tryAt, seek, final, first, next, later, walkRuns, walk}
 use Rattle.protocol.specs.Starts.{laterStarts, starts}
-use Rattle.protocol.specs.Refusals.{outsidePath, refusal, decideRefusal, matchRefusal, normaliseRefusal, lineRefusal, unlessRefused}
-use Rattle.protocol.specs.Decision.{readableRules, weightOf, walkOf, comparedBy, matching, outdoes, chosen, deciding, decidedBy, isRobotsFile, decidedAmong, answered}
+use Rattle.protocol.specs.Refusals.{outsidePath, dialectOf, refusal, decideRefusal, matchRefusal, normaliseRefusal, lineRefusal, unlessRefused}
+use Rattle.protocol.specs.Decision.{readableRules, weightIn, walkOf, matching, outdoes, chosen, heaviest, earliest, deciding, walked, comparedBy, decidedBy, isRobotsFile, decidedAmong, answered}
 use Rattle.protocol.specs.Answers.{decide, matchOf, normalWritten, normaliseOf, normaliseBuffer, lineAnswer}
 use Rattle.protocol.specs.Program.{decimalBefore, decimal, refusedText, sideText, answerText, firstPart, behind, output}
 
 unfoldable pub texts : Unit {0}
-unfolding all any kept upTo from total numbersFrom same upper lower digit token unreserved hex blank lineEnd lowerCase upperCase hexValue hexDigit octets begins ends sameIgnoringCase lead unlessAtEnd trimEnd trim octetsAt
+unfolding all any kept upTo from through total numbersFrom same upper lower digit token unreserved hex blank lineEnd lowerCase upperCase hexValue hexDigit octets begins ends sameIgnoringCase lead unlessAtEnd trimEnd trim octetsAt
 texts = tt
 
 unfoldable pub lines : Unit {0}
@@ -29,11 +29,11 @@ unfolding roleOf groupAt ruledAfter placeInFile entryOf entriesFrom entries name
 groups = tt
 
 unfoldable pub patterns : Unit {0}
-unfolding encoded meant escape isEscape escapeAt special plain replacement normal normalPath rawText shapeOf weight firstRun laterRuns tried tryAt seek final first next later walkRuns walk laterStarts starts
+unfolding encoded meant escape isEscape escapeAt special plain replacement normal normalPath rawText shapeOf shapeIn weight firstRun laterRuns tried tryAt seek final first next later walkRuns walk laterStarts starts
 patterns = tt
 
 unfoldable pub answers : Unit {0}
-unfolding outsidePath refusal decideRefusal matchRefusal normaliseRefusal lineRefusal unlessRefused readableRules weightOf walkOf comparedBy matching outdoes chosen deciding decidedBy isRobotsFile decidedAmong answered decide matchOf normalWritten normaliseOf normaliseBuffer lineAnswer decimalBefore decimal refusedText sideText answerText firstPart behind output
+unfolding outsidePath dialectOf refusal decideRefusal matchRefusal normaliseRefusal lineRefusal unlessRefused readableRules weightIn walkOf matching outdoes chosen heaviest earliest deciding walked comparedBy decidedBy isRobotsFile decidedAmong answered decide matchOf normalWritten normaliseOf normaliseBuffer lineAnswer decimalBefore decimal refusedText sideText answerText firstPart behind output
 answers = tt
 
 -- all of them

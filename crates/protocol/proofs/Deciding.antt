@@ -16,7 +16,7 @@ use Rattle.lists.proofs.Parts.{each-append}
 use Rattle.lists.proofs.Members.{each-map, kept-in, kept-out}
 use Rattle.protocol.specs.declared.Side.{Side}
 use Rattle.protocol.specs.declared.Rule.{Rule}
-use Rattle.protocol.specs.Decision.{weightOf, allows, outdoes, chosen, deciding}
+use Rattle.protocol.specs.Decision.{weightOf, allows, outdoes, chosen, heaviest}
 use Rattle.protocol.specs.Meaning.{Before, heavier, allowing, Tie}
 
 -- one number for a weight and a side
@@ -127,10 +127,10 @@ module _ (file : List ℕ) (f : Rule → Bool) (x : Rule) (rs : List Rule) where
   choice-out e (some r) c = first-behind r (λ p. absurd (true≢false (sym p ∙ e))) c
 
 -- The rule that decides among those that pass is their first; none does where none passes.
-pub choice : (file : List ℕ) (f : Rule → Bool) (rs : List Rule) → Choice file f rs (deciding file (kept f rs))
-unfolding Choice deciding kept
+pub choice : (file : List ℕ) (f : Rule → Bool) (rs : List Rule) → Choice file f rs (heaviest file (kept f rs))
+unfolding Choice heaviest kept
 choice file f [] = tt
 choice file f (x ∷ rs) =
     split (f x)
-    (λ e. rw (kept-in f x rs e) (choice-in file f x rs e (deciding file (kept f rs)) (choice file f rs)))
-    (λ e. rw (kept-out f x rs e) (choice-out file f x rs e (deciding file (kept f rs)) (choice file f rs)))
+    (λ e. rw (kept-in f x rs e) (choice-in file f x rs e (heaviest file (kept f rs)) (choice file f rs)))
+    (λ e. rw (kept-out f x rs e) (choice-out file f x rs e (heaviest file (kept f rs)) (choice file f rs)))

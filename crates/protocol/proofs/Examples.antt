@@ -15,6 +15,7 @@ use Rattle.protocol.specs.Walk.{walk}
 use Rattle.protocol.specs.Answers.{sideNumber}
 use Rattle.protocol.specs.Program.{decimal, output}
 use Rattle.protocol.specs.Examples.{asked, answer, workedTable, programInput, programOutput}
+use Rattle.protocol.specs.DraftExamples.{pathAsked, pathMatches, draftPaths, draftTable, bothTable}
 use Rattle.protocol.specs.OwnExamples.{simpleExample, ourTable, refusedAt, refusalAt, ourSizes, spanAsked, span, ourSpans}
 use Rattle.protocol.specs.OwnExamples.{givenEntries, applyingLines, fillingAsked, fillingGives, ourFillings}
 use Rattle.protocol.specs.OwnExamples.{entryNumbers, entriesFile, entriesNumbers, lineAsked, ourLines}
@@ -38,6 +39,19 @@ program-example = refl
 pub our-table : map asked ourTable ≡ map answer ourTable
 unfolding computing ourTable simpleExample
 our-table = refl
+
+-- M-113: 004's table, and its record decided as 004 has it; the dialects beside each other
+pub draft-paths : map pathAsked draftPaths ≡ map pathMatches draftPaths
+unfolding computing draftPaths
+draft-paths = refl
+
+pub draft-table : map asked draftTable ≡ map answer draftTable
+unfolding computing draftTable
+draft-table = refl
+
+pub both-table : map asked bothTable ≡ map answer bothTable
+unfolding computing bothTable
+both-table = refl
 
 pub our-sizes : map refusedAt ourSizes ≡ map refusalAt ourSizes
 unfolding computing ourSizes

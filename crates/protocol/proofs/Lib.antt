@@ -12,6 +12,7 @@ pub mod Counted
 pub mod Leftmost
 pub mod Starts
 pub mod Found
+pub mod Plain
 pub mod MatchAnswer
 pub mod NormaliseAnswer
 pub mod KindAnswer
@@ -24,4 +25,5 @@ pub mod Applying
 pub mod Ascending
 pub mod Deciding
 pub mod Decided
+pub mod Earliest
 pub mod Demands

@@ -1,7 +1,7 @@
 -- "Just inside: a 512,000-octet file [..]. One more octet [..] is refused", and "program only: input over 65,536 octets": the limits that are
 -- too long to compute with. The others are rows of specs/OwnExamples.antt. And how long a path is that isn't refused. Assumes nothing.
 use Prim.Native.Nat.{ℕ, _≤_, _<_}
-use mathlib.Core.Path.{_≡_}
+use mathlib.Core.Path.{_≡_, _∙_}
 use mathlib.Core.Bool.{true}
 use mathlib.Core.List.{List, [], _∷_, _++_}
 use native.Mathlib.Omega.{arith}
@@ -13,12 +13,13 @@ use Rattle.protocol.specs.declared.Decision.{Decision}
 use Rattle.protocol.specs.Octets.{is}
 use Rattle.protocol.specs.Text.{begins}
 use Rattle.protocol.specs.Normal.{normalPath}
-use Rattle.protocol.specs.Refusals.{Row, tooLong, severalLines, badName, badPattern, inputTooLong, refusal, pathRows, decideRows, decideRefusal, matchRefusal, lineRefusal, unlessRefused}
+use Rattle.protocol.specs.declared.Dialect.{Dialect}
+use Rattle.protocol.specs.Refusals.{Row, dialectNumber, tooLong, severalLines, badName, badPattern, inputTooLong, refusal, pathRows, decideRows, decideRefusal, matchRefusal, lineRefusal, unlessRefused}
 use Rattle.protocol.specs.Answers.{decide}
 use Rattle.protocol.specs.Meaning.{ByTable}
 use Rattle.protocol.specs.Program.{refusedText, answerText, nameIn, pathIn, fileIn, programRows, output}
 use Rattle.protocol.proofs.Sizes.{path-limit}
-use Rattle.protocol.proofs.Refused.{refusal-here, refusal-on, refusal-by-table}
+use Rattle.protocol.proofs.Refused.{refusal-here, refusal-on, refusal-by-table, known-refusal}
 use Rattle.protocol.proofs.Demands.{decide-refusal}
 
 module _ (l : List ℕ) (rows : List Row) where
@@ -33,9 +34,8 @@ module _ (l : List ℕ) (rows : List Row) where
       split (leb (length l) 512_000) (λ e. leb-true _ _ e) (λ e. absurd (omega (arith, h, too-long (leb-false (length l) 512_000 e))))
 
 -- each question that is given a file, a pattern or a line tests it first
-pub file-too-long : (file name path : List ℕ) → 512_000 < length file → decideRefusal file name path ≡ 1
-unfolding decideRefusal
-file-too-long file name path h = too-long file (badName name ∷ pathRows path) h
+pub file-too-long : (d : Dialect) (file name path : List ℕ) → 512_000 < length file → decideRefusal (dialectNumber d) file name path ≡ 1
+file-too-long d file name path h = known-refusal file name path d ∙ too-long file (badName name ∷ pathRows path) h
 
 pub pattern-too-long : (pattern path : List ℕ) → 512_000 < length pattern → matchRefusal pattern path ≡ 1
 unfolding matchRefusal
@@ -55,14 +55,14 @@ module _ (input : List ℕ) where
   output-refused h = rw (lt-ltb 65_536 (length input) h)
 
   -- otherwise it writes what its decision comes to
-  pub output-answered : length input ≤ 65_536 → {d : Decision} → d ≡ decide (fileIn input) (nameIn input) (pathIn input)
+  pub output-answered : length input ≤ 65_536 → {d : Decision} → d ≡ decide 0 (fileIn input) (nameIn input) (pathIn input)
       → output input ≡ unlessRefused (d .refusal) refusedText (answerText d)
   unfolding output decideRefusal
   output-answered h e =
       rw (
         e,
-        decide-refusal (fileIn input) (nameIn input) (pathIn input),
-        refusal-on (inputTooLong input) (decideRows (fileIn input) (nameIn input) (pathIn input)) (le-ltb 65_536 (length input) h),
+        decide-refusal 0 (fileIn input) (nameIn input) (pathIn input),
+        refusal-on (inputTooLong input) (decideRows 0 (fileIn input) (nameIn input) (pathIn input)) (le-ltb 65_536 (length input) h),
       )
 
 -- the beginning and the length of a path that no row of its own refuses

@@ -10,7 +10,8 @@ use Rattle.lists.specs.Ascending.{Ascending}
 use Rattle.lists.specs.Each.{Each}
 use Rattle.lists.specs.Lists.{any}
 use Rattle.lists.proofs.Bools.{split}
-use Rattle.protocol.specs.Refusals.{Row, _when_, refusal, pathRows, decideRows, matchRows, normaliseRows, lineRows, decideRefusal, matchRefusal, normaliseRefusal, lineRefusal, unlessRefused}
+use Rattle.protocol.specs.declared.Dialect.{Dialect}
+use Rattle.protocol.specs.Refusals.{Row, _when_, dialectNumber, dialectOf, unknownDialect, refusal, pathRows, questionRows, decideRows, matchRows, normaliseRows, lineRows, decideRefusal, matchRefusal, normaliseRefusal, lineRefusal, unlessRefused}
 use Rattle.protocol.specs.Meaning.{NoneGiven, FirstGiven, ByTable, isGiven, SmallestGiven, SmallestFirst}
 
 -- whatever is answered, or refused with n: by cases, and in each of them
@@ -141,15 +142,31 @@ smallest-first (r ∷ rows) b a =
     split (r .given) (λ e. rw (refusal-here r rows e) (smallest r rows e (a .1)))
     (λ e. rw e (smallest-first rows (r .number) (a .1)))
 
+-- the two dialects have a number each, which is theirs alone
+pub dialect-numbered : (d : Dialect) → dialectOf (dialectNumber d) ≡ d
+unfolding dialectOf
+dialect-numbered Dialect.Rfc9309 = refl
+dialect-numbered Dialect.Draft1996 = refl
+
 -- the four questions
 module _ (file name path : List ℕ) where
-  pub decideRefusal-by-table : ByTable (decideRows file name path) (decideRefusal file name path)
+  pub decideRefusal-by-table : (dialect : ℕ) → ByTable (decideRows dialect file name path) (decideRefusal dialect file name path)
   unfolding decideRefusal
-  decideRefusal-by-table = refusal-by-table (decideRows file name path) (omega arith)
+  decideRefusal-by-table dialect = refusal-by-table (decideRows dialect file name path) (omega arith)
 
-  pub decide-smallest-first : SmallestFirst (decideRows file name path) (decideRefusal file name path)
+  -- "20 for an unknown dialect, first of all"
+  pub unknown-refused : (n : ℕ) → (n ≡ 0 → ⊥) → (n ≡ 1 → ⊥) → decideRefusal n file name path ≡ 20
   unfolding decideRefusal
-  decide-smallest-first = smallest-first (decideRows file name path) 0 (omega arith)
+  unknown-refused n h k = refusal-here (unknownDialect n) (questionRows file name path) (rw (ne-eqb n 0 h, ne-eqb n 1 k))
+
+  -- and otherwise what document 01's rows give, the same in both dialects
+  pub known-refusal : (d : Dialect) → decideRefusal (dialectNumber d) file name path ≡ refusal (questionRows file name path)
+  unfolding decideRefusal
+  known-refusal Dialect.Rfc9309 = refusal-on (unknownDialect 0) (questionRows file name path) refl
+  known-refusal Dialect.Draft1996 = refusal-on (unknownDialect 1) (questionRows file name path) refl
+
+  pub decide-smallest-first : (d : Dialect) → SmallestFirst (questionRows file name path) (decideRefusal (dialectNumber d) file name path)
+  decide-smallest-first d = rw (known-refusal d) (smallest-first (questionRows file name path) 0 (omega arith))
 
 module _ (pattern path : List ℕ) where
   pub matchRefusal-by-table : ByTable (matchRows pattern path) (matchRefusal pattern path)

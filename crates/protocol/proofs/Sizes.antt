@@ -9,10 +9,11 @@ use lib.ListN.{length, length-append}
 use borrow.Author.Tests.{eqb-true}
 use Rattle.lists.specs.Choice.{if_then_else_}
 use Rattle.lists.proofs.Bools.{split}
+use Rattle.protocol.specs.declared.Dialect.{Dialect}
 use Rattle.protocol.specs.Octets.{unreserved}
 use Rattle.protocol.specs.Text.{begins, ends}
 use Rattle.protocol.specs.Normal.{encoded, meant, escape, isEscape, escapeAt, special, isEncoded, plain, replacement, normal, normalPath}
-use Rattle.protocol.specs.Pattern.{rawText, shapeOf, weight}
+use Rattle.protocol.specs.Pattern.{rawText, shapeOf, shapeIn, weight}
 
 escape-size : (l : List ℕ) → length (escapeAt l) ≤ 3
 unfolding escapeAt escape
@@ -38,7 +39,7 @@ normal-size stars zero (c ∷ l) =
     omega (arith, length-append (replacement stars c l) (normal stars n l), replacement-size stars c l, normal-size stars n l)
 normal-size stars (suc n) (c ∷ l) = omega (arith, normal-size stars n l)
 
-slash-plain : (l : List ℕ) → isEscape (code "/") l ≡ false
+pub slash-plain : (l : List ℕ) → isEscape (code "/") l ≡ false
 unfolding isEscape
 slash-plain [] = refl
 slash-plain (d ∷ []) = refl
@@ -65,7 +66,13 @@ pub end-mark-length : (raw : List ℕ) → length (rawText raw) + (if ends "$" r
 unfolding rawText
 end-mark-length raw = split (ends "$" raw) (λ h. rw h (last-gone raw h)) (λ h. rw h (omega arith))
 
--- A pattern weighs at most three times its raw octets.
+-- A pattern weighs at most three times its raw octets,
 pub weight-size : (raw : List ℕ) → weight (shapeOf raw) ≤ 3 * length raw
 unfolding weight shapeOf
 weight-size raw = omega (arith, normal-size true 0 (rawText raw), end-mark-length raw)
+
+-- in both dialects.
+pub weight-in-size : (d : Dialect) (raw : List ℕ) → weight (shapeIn d raw) ≤ 3 * length raw
+unfolding weight shapeIn normalPath
+weight-in-size Dialect.Rfc9309 raw = weight-size raw
+weight-in-size Dialect.Draft1996 raw = omega (arith, normal-size false 0 raw)

@@ -16,11 +16,13 @@ use Rattle.protocol.specs.declared.LineAnswer.{LineAnswer}
 use Rattle.protocol.specs.Lines.{lineNumber, placeAt}
 use Rattle.protocol.specs.Kinds.{kindOf, placeOf, lengthOf}
 use Rattle.protocol.specs.Entries.{entries}
+use Rattle.protocol.specs.declared.Rule.{Rule}
+use Rattle.protocol.specs.Rules.{applying}
 use Rattle.protocol.specs.Normal.{normalPath}
 use Rattle.protocol.specs.Pattern.{shapeOf}
 use Rattle.protocol.specs.Walk.{walk}
-use Rattle.protocol.specs.Refusals.{decideRefusal, matchRefusal, normaliseRefusal, lineRefusal, unlessRefused}
-use Rattle.protocol.specs.Decision.{answered}
+use Rattle.protocol.specs.Refusals.{dialectOf, decideRefusal, matchRefusal, normaliseRefusal, lineRefusal, unlessRefused}
+use Rattle.protocol.specs.Decision.{readableRules, walked, answered}
 
 -- "A refused decision holds its number, disallow, and zeros"
 abbrev pub refusedDecision : ℕ → Decision
@@ -35,10 +37,16 @@ refusedDecision n =
       compared = 0;
     }
 
--- "Decide: file, name, path"
-unfoldable pub decide : List ℕ → List ℕ → List ℕ → Decision
-decide file name path =
-    unlessRefused (decideRefusal file name path) refusedDecision (answered file (entries file) name (normalPath path))
+-- "Decide: file, name, path", in the dialect of a number (M-113)
+unfoldable pub decide : ℕ → List ℕ → List ℕ → List ℕ → Decision
+decide dialect file name path =
+    unlessRefused (decideRefusal dialect file name path) refusedDecision
+    (answered (dialectOf dialect) file (entries file) name (normalPath path))
+
+-- the rules that are walked for it
+abbrev pub walkedRules : ℕ → List ℕ → List ℕ → List ℕ → List Rule
+walkedRules dialect file name path =
+    walked (dialectOf dialect) file (normalPath path) (readableRules file (applying file (entries file) name))
 
 -- "allow or disallow (0 or 1 where a number is wanted)"
 abbrev pub sideNumber : Side → ℕ

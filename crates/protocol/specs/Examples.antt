@@ -30,8 +30,9 @@ disallow l u c = record { refusal = 0; side = Side.Disallow; line = l; unread = 
 abbrev pub refused : ℕ → Answer
 refused n = record { refusal = n; side = Side.Disallow; line = 0; unread = 0; compared = 0 }
 
--- File; Name, path; Answer
+-- File; Name, path; Answer; and the number of the dialect (M-113)
 pub record Row : Type 0 where
+  pub dialect : ℕ
   pub file : List ℕ
   pub name : String
   pub path : String
@@ -42,13 +43,16 @@ abbrev pub lines : String → List ℕ
 lines s = map (λ c. if is "|" c then code "\n" else c) (octets s)
 
 abbrev pub rowIn : List ℕ → String → String → Answer → Row
-rowIn f n p a = record { file = f; name = n; path = p; answer = a }
+rowIn f n p a = record { dialect = 0; file = f; name = n; path = p; answer = a }
+
+abbrev pub rowBy : ℕ → String → String → String → Answer → Row
+rowBy d f n p a = record { dialect = d; file = lines f; name = n; path = p; answer = a }
 
 abbrev pub row : String → String → String → Answer → Row
-row f n p a = rowIn (lines f) n p a
+row f n p a = rowBy 0 f n p a
 
 abbrev pub asked : Row → Answer
-asked r = told (decide (r .file) (octets (r .name)) (octets (r .path)))
+asked r = told (decide (r .dialect) (r .file) (octets (r .name)) (octets (r .path)))
 
 abbrev pub answer : Row → Answer
 answer r = r .answer

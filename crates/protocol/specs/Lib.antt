@@ -18,3 +18,4 @@ pub mod Meaning
 pub mod Program
 pub mod Examples
 pub mod OwnExamples
+pub mod DraftExamples

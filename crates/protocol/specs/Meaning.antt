@@ -9,6 +9,7 @@ use lib.Dec.{eqb}
 use lib.ListN.{length}
 use Rattle.lists.specs.Lists.{all, any}
 use Rattle.lists.specs.Each.{Each}
+use Rattle.protocol.specs.declared.Dialect.{Dialect}
 use Rattle.protocol.specs.declared.Side.{Side}
 use Rattle.protocol.specs.declared.Decision.{Decision}
 use Rattle.protocol.specs.Lines.{lineNumber, placeAt}
@@ -21,7 +22,7 @@ use Rattle.protocol.specs.Rules.{valueOf, ruleOf, applying}
 use Rattle.protocol.specs.Normal.{normalPath}
 use Rattle.protocol.specs.Pattern.{shapeOf}
 use Rattle.protocol.specs.Matching.{Matches}
-use Rattle.protocol.specs.Refusals.{Row, _when_, decideRefusal}
+use Rattle.protocol.specs.Refusals.{Row, _when_, dialectOf, decideRefusal}
 use Rattle.protocol.specs.Decision.{patternOf, readableRules, weightOf, isRobotsFile}
 
 -- "0 answered": no row is given
@@ -98,27 +99,56 @@ pub record RuleMatches (file path : List ℕ) (r : Rule) : Type 0 where
   pub readable : readablePattern (patternOf file r) ≡ true
   pub matches : Matches (shapeOf (patternOf file r)) path
 
+-- M-113, in the draft's dialect: the pattern is readable and, normalised as a path is, it begins the path. 004: "if and only if the end of the
+-- path from the record is reached before a difference in octets is encountered"
+pub record RuleBegins (file path : List ℕ) (r : Rule) : Type 0 where
+  pub readable : readablePattern (patternOf file r) ≡ true
+  pub rest : List ℕ
+  pub begins : normalPath (patternOf file r) ++ rest ≡ path
+
+-- what it means in a dialect that a rule matches
+abbrev pub MatchesIn : Dialect → List ℕ → List ℕ → Rule → Type 0
+MatchesIn Dialect.Rfc9309 file path r = RuleMatches file path r
+MatchesIn Dialect.Draft1996 file path r = RuleBegins file path r
+
 -- r is one of "the rules that RFC 9309 as read by document 01 gives this crawler", and it matches
-pub record Candidate (file : List ℕ) (es : List Entry) (name path : List ℕ) (r : Rule) : Type 0 where
+pub record Candidate (d : Dialect) (file : List ℕ) (es : List Entry) (name path : List ℕ) (r : Rule) : Type 0 where
   pub applies : List·Memᴰ r (applying file es name)
-  pub matches : RuleMatches file path r
+  pub matches : MatchesIn d file path r
 
 -- "some disallow rule matches and weighs more than every allow rule that matches"
 pub record Closed (file : List ℕ) (es : List Entry) (name path : List ℕ) : Type 0 where
   pub rule : Rule
-  pub candidate : Candidate file es name path rule
+  pub candidate : Candidate Dialect.Rfc9309 file es name path rule
   pub disallows : rule .side ≡ Side.Disallow
-  pub heavier : (s : Rule) → Candidate file es name path s → s .side ≡ Side.Allow → weightOf file s < weightOf file rule
+  pub heavier : (s : Rule) → Candidate Dialect.Rfc9309 file es name path s → s .side ≡ Side.Allow → weightOf file s < weightOf file rule
 
--- "disallow", for every file, name and path: the decision is refused, or the normalised path isn't /robots.txt and is closed
-abbrev pub Shut : List ℕ → List ℕ → List ℕ → Type 0
-Shut file name path =
-    (decideRefusal file name path ≡ 0 → ⊥)
-    ⊎ ((isRobotsFile (normalPath path) ≡ false) × Closed file (entries file) name (normalPath path))
+-- M-113, in the draft's dialect: "the first match in file order decides". 004: "in the order they occur in the record. The first match found is
+-- used"
+pub record DecidesFirst (file : List ℕ) (es : List Entry) (name path : List ℕ) (r : Rule) : Type 0 where
+  pub other : isRobotsFile path ≡ false
+  pub candidate : Candidate Dialect.Draft1996 file es name path r
+  pub first : (s : Rule) → Candidate Dialect.Draft1996 file es name path s → r .line .number ≤ s .line .number
+
+-- and a disallow rule does
+pub record ClosedFirst (file : List ℕ) (es : List Entry) (name path : List ℕ) : Type 0 where
+  pub rule : Rule
+  pub decides : DecidesFirst file es name path rule
+  pub disallows : rule .side ≡ Side.Disallow
+
+-- a normalised path is closed, in a dialect: "the normalised path isn't /robots.txt and .."
+abbrev pub ClosedIn : Dialect → List ℕ → List Entry → List ℕ → List ℕ → Type 0
+ClosedIn Dialect.Rfc9309 file es name path = (isRobotsFile path ≡ false) × Closed file es name path
+ClosedIn Dialect.Draft1996 file es name path = ClosedFirst file es name path
+
+-- "disallow", for every dialect, file, name and path: the decision is refused, or the normalised path is closed
+abbrev pub Shut : ℕ → List ℕ → List ℕ → List ℕ → Type 0
+Shut dialect file name path =
+    (decideRefusal dialect file name path ≡ 0 → ⊥) ⊎ ClosedIn (dialectOf dialect) file (entries file) name (normalPath path)
 
 -- "each readable rule that applies"
-abbrev pub walkedRules : List ℕ → List ℕ → List Rule
-walkedRules file name = readableRules file (applying file (entries file) name)
+abbrev pub readableFor : List ℕ → List ℕ → List Rule
+readableFor file name = readableRules file (applying file (entries file) name)
 
 -- "the heaviest match, allow before disallow at equal weight": r comes before s
 pub data Before (file : List ℕ) (r s : Rule) : Type 0 where
@@ -133,8 +163,8 @@ pub record Tie (file : List ℕ) (r s : Rule) : Type 0 where
 -- "then the earliest line": r is the rule that decides
 pub record Decides (file : List ℕ) (es : List Entry) (name path : List ℕ) (r : Rule) : Type 0 where
   pub other : isRobotsFile path ≡ false
-  pub candidate : Candidate file es name path r
-  pub first : (s : Rule) → Candidate file es name path s → Before file r s ⊎ (Tie file r s × (r .line .number ≤ s .line .number))
+  pub candidate : Candidate Dialect.Rfc9309 file es name path r
+  pub first : (s : Rule) → Candidate Dialect.Rfc9309 file es name path s → Before file r s ⊎ (Tie file r s × (r .line .number ≤ s .line .number))
 
 -- The same from any entries, whatever their line numbers: among rules that tie, the one that stands first. M-104: "at a full tie the earlier"
 pub record DecidesInOrder (file : List ℕ) (es : List Entry) (name path : List ℕ) (r : Rule) : Type 0 where
@@ -146,9 +176,19 @@ pub record DecidesInOrder (file : List ℕ) (es : List Entry) (name path : List 
   pub ahead : (s : Rule) → List·Memᴰ s front → RuleMatches file path s → Before file r s
   pub behind : (s : Rule) → List·Memᴰ s back → RuleMatches file path s → Before file r s ⊎ Tie file r s
 
+-- r decides, in a dialect
+abbrev pub DecidesIn : Dialect → List ℕ → List Entry → List ℕ → List ℕ → Rule → Type 0
+DecidesIn Dialect.Rfc9309 file es name path r = Decides file es name path r
+DecidesIn Dialect.Draft1996 file es name path r = DecidesFirst file es name path r
+
 -- no rule decides: the path is /robots.txt, or no rule that applies matches
-abbrev pub Undecided : List ℕ → List Entry → List ℕ → List ℕ → Type 0
-Undecided file es name path = (isRobotsFile path ≡ true) ⊎ ((r : Rule) → Candidate file es name path r → ⊥)
+abbrev pub Undecided : Dialect → List ℕ → List Entry → List ℕ → List ℕ → Type 0
+Undecided d file es name path = (isRobotsFile path ≡ true) ⊎ ((r : Rule) → Candidate d file es name path r → ⊥)
+
+-- M-113: "the sum here ending with the deciding rule, if there is one": ws is what of the rules rs stands up to it, or all of them
+pub data UpToDecider (None : Type 0) (Decider : Rule → Type 0) (rs ws : List Rule) : Type 0 where
+  toLast : None → ws ≡ rs → UpToDecider None Decider rs ws
+  toRule : (front back : List Rule) (r : Rule) → Decider r → rs ≡ front ++ (r ∷ back) → ws ≡ front ++ (r ∷ []) → UpToDecider None Decider rs ws
 
 -- "The answer names the deciding rule's line and octets"
 pub record NamesRule (d : Decision) (r : Rule) : Type 0 where

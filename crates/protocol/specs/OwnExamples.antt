@@ -175,7 +175,7 @@ abbrev pub many : ℕ → List ℕ
 many n = replicate n (code "x")
 
 abbrev pub refusedAt : Sizes → ℕ
-refusedAt s = decide [] (many (s .name)) (code "/" ∷ many (s .path)) .refusal
+refusedAt s = decide 0 [] (many (s .name)) (code "/" ∷ many (s .path)) .refusal
 
 abbrev pub refusalAt : Sizes → ℕ
 refusalAt s = s .refusal
@@ -281,7 +281,7 @@ located f p q n = record { file = f; path = p; place = q; length = n }
 
 abbrev pub spanAsked : Located → Span
 spanAsked r =
-    let d = decide (r .file) (octets "a") (octets (r .path)) in
+    let d = decide 0 (r .file) (octets "a") (octets (r .path)) in
     record { place = d .place .offset; length = d .length }
 
 abbrev pub span : Located → Span

@@ -61,8 +61,8 @@ fileIn input = behind (behind input)
 
 -- "the program tests 7 before all others"
 abbrev pub programRows : List ℕ → List Row
-programRows input = inputTooLong input ∷ decideRows (fileIn input) (nameIn input) (pathIn input)
+programRows input = inputTooLong input ∷ decideRows 0 (fileIn input) (nameIn input) (pathIn input)
 
 unfoldable pub output : List ℕ → List ℕ
 output input =
-    unlessRefused (refusal (programRows input)) refusedText (answerText (decide (fileIn input) (nameIn input) (pathIn input)))
+    unlessRefused (refusal (programRows input)) refusedText (answerText (decide 0 (fileIn input) (nameIn input) (pathIn input)))

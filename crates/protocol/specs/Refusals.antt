@@ -2,10 +2,11 @@
 use Prim.Native.Nat.{ℕ, zero, suc}
 use mathlib.Core.Bool.{Bool, _||_, not}
 use mathlib.Core.List.{List, [], _∷_, _++_}
-use lib.Dec.{leb, ltb}
+use lib.Dec.{leb, ltb, eqb}
 use lib.ListN.{length}
 use Rattle.lists.specs.Choice.{if_then_else_}
 use Rattle.lists.specs.Lists.{empty, all, any}
+use Rattle.protocol.specs.declared.Dialect.{Dialect}
 use Rattle.protocol.specs.Octets.{is, token, lineEnd}
 use Rattle.protocol.specs.Text.{begins}
 use Rattle.protocol.specs.Readable.{readablePattern}
@@ -63,6 +64,19 @@ badPattern pattern = 8 when not (readablePattern pattern)
 abbrev pub severalLines : List ℕ → Row
 severalLines line = 9 when any lineEnd line
 
+-- M-113: "a choice (1; 0 is the RFC's)": a number of a dialect
+abbrev pub dialectNumber : Dialect → ℕ
+dialectNumber Dialect.Rfc9309 = 0
+dialectNumber Dialect.Draft1996 = 1
+
+-- the dialect of a number; of one that is none's it is asked nowhere
+unfoldable pub dialectOf : ℕ → Dialect
+dialectOf n = if eqb n 1 then Dialect.Draft1996 else Dialect.Rfc9309
+
+-- "20 for an unknown dialect"
+abbrev pub unknownDialect : ℕ → Row
+unknownDialect n = 20 when not (eqb n 0 || eqb n 1)
+
 -- "Each entry tests the conditions that concern it", one row after the other: the first that is given, or "0 answered"
 unfoldable pub refusal : List Row → ℕ
 refusal [] = 0
@@ -72,8 +86,12 @@ refusal (r ∷ rows) = if r .given then r .number else refusal rows
 abbrev pub pathRows : List ℕ → List Row
 pathRows path = badLength path ∷ badStart path ∷ badOctet path ∷ []
 
-abbrev pub decideRows : List ℕ → List ℕ → List ℕ → List Row
-decideRows file name path = tooLong file ∷ badName name ∷ pathRows path
+abbrev pub questionRows : List ℕ → List ℕ → List ℕ → List Row
+questionRows file name path = tooLong file ∷ badName name ∷ pathRows path
+
+-- M-113: "20 for an unknown dialect, first of all"
+abbrev pub decideRows : ℕ → List ℕ → List ℕ → List ℕ → List Row
+decideRows dialect file name path = unknownDialect dialect ∷ questionRows file name path
 
 abbrev pub matchRows : List ℕ → List ℕ → List Row
 matchRows pattern path = tooLong pattern ∷ pathRows path ++ (badPattern pattern ∷ [])
@@ -84,8 +102,8 @@ normaliseRows room path = pathRows path ++ (noRoom room path ∷ [])
 abbrev pub lineRows : List ℕ → List Row
 lineRows line = tooLong line ∷ severalLines line ∷ []
 
-unfoldable pub decideRefusal : List ℕ → List ℕ → List ℕ → ℕ
-decideRefusal file name path = refusal (decideRows file name path)
+unfoldable pub decideRefusal : ℕ → List ℕ → List ℕ → List ℕ → ℕ
+decideRefusal dialect file name path = refusal (decideRows dialect file name path)
 
 unfoldable pub matchRefusal : List ℕ → List ℕ → ℕ
 matchRefusal pattern path = refusal (matchRows pattern path)

@@ -44,6 +44,12 @@ pub struct Rule {
     pub length: usize,
 }
 
+// The paper whose rules decide: RFC 9309, or the draft of 1996.
+pub enum Dialect {
+    Rfc9309,
+    Draft1996,
+}
+
 // Whose groups apply: those that name the crawler, those of "*", or nobody's.
 pub enum Audience {
     Crawler,

@@ -9,82 +9,112 @@ ghost use Rattle.lists.specs.Lists.{total};
 ghost use Rattle.protocol.specs.Normal.{normalPath};
 ghost use Rattle.protocol.specs.Pattern.{shapeOf, weight};
 ghost use Rattle.protocol.specs.Matching.{Matches};
-ghost use Rattle.protocol.specs.Refusals.{decideRows, matchRows, normaliseRows, lineRows, matchRefusal, normaliseRefusal};
-ghost use Rattle.protocol.specs.Decision.{weightOf};
-ghost use Rattle.protocol.specs.Meaning.{ByTable, Shut, walkedRules};
-ghost use Rattle.protocol.specs.Answers.{decide, sideNumber, matchOf, foundNumber, normaliseOf, normaliseBuffer, lineAnswer, refusalOf, kindNumberOf, valuePlace, valueLength};
+ghost use Rattle.protocol.specs.Refusals.{dialectOf, decideRows, matchRows, normaliseRows, lineRows, matchRefusal, normaliseRefusal};
+ghost use Rattle.protocol.specs.Decision.{weightIn};
+ghost use Rattle.protocol.specs.Meaning.{ByTable, Shut};
+ghost use Rattle.protocol.specs.Answers.{decide, walkedRules, sideNumber, matchOf, foundNumber, normaliseOf, normaliseBuffer, lineAnswer, refusalOf, kindNumberOf, valuePlace, valueLength};
 
 // Why a decision is refused, by the table of refusals: 0 where it isn't.
 #[no_mangle]
-pub extern "C" fn robots_decide_refusal(file: &[u8], name: &[u8], path: &[u8]) -> usize
-    ensures { λ r. ⌜ r ≡ decide (now (file .entry)) (now (name .entry)) (now (path .entry)) .refusal ⌝ }
-    ensures { λ r. ⌜ ByTable (decideRows (now (file .entry)) (now (name .entry)) (now (path .entry))) r ⌝ }
+pub extern "C" fn robots_decide_refusal(
+    dialect: usize,
+    file: &[u8],
+    name: &[u8],
+    path: &[u8],
+) -> usize
+    ensures { λ r. ⌜ r ≡ decide dialect (now (file .entry)) (now (name .entry)) (now (path .entry)) .refusal ⌝ }
+    ensures { λ r. ⌜ ByTable (decideRows dialect (now (file .entry)) (now (name .entry)) (now (path .entry))) r ⌝ }
 {
     let classes = octets::classes();
-    decide::answers::decide_refusal(&classes, file, name, path)
+    decide::answers::decide_refusal(&classes, file, name, path, dialect)
 }
 
 // 0 where the path is allowed, 1 where it is disallowed. A refused decision is 1: it fails shut.
 #[no_mangle]
-pub extern "C" fn robots_decide_disallow(file: &[u8], name: &[u8], path: &[u8]) -> usize
-    ensures { λ r. ⌜ r ≡ sideNumber (decide (now (file .entry)) (now (name .entry)) (now (path .entry)) .side) ⌝ }
-    ensures { λ r. ⌜ (r ≡ 1) ↔ Shut (now (file .entry)) (now (name .entry)) (now (path .entry)) ⌝ }
+pub extern "C" fn robots_decide_disallow(
+    dialect: usize,
+    file: &[u8],
+    name: &[u8],
+    path: &[u8],
+) -> usize
+    ensures { λ r. ⌜ r ≡ sideNumber (decide dialect (now (file .entry)) (now (name .entry)) (now (path .entry)) .side) ⌝ }
+    ensures { λ r. ⌜ (r ≡ 1) ↔ Shut dialect (now (file .entry)) (now (name .entry)) (now (path .entry)) ⌝ }
 {
     let classes = octets::classes();
-    let answer = decide::answers::decide(&classes, false, file, name, path);
+    let answer = decide::answers::decide(&classes, false, file, name, path, dialect);
     let side = answer.side;
     numbers::side_number(side)
 }
 
 // The line of the rule that decided, counted from 1: 0 where none did.
 #[no_mangle]
-pub extern "C" fn robots_decide_line(file: &[u8], name: &[u8], path: &[u8]) -> usize
-    ensures { λ r. ⌜ r ≡ decide (now (file .entry)) (now (name .entry)) (now (path .entry)) .line .number ⌝ }
+pub extern "C" fn robots_decide_line(dialect: usize, file: &[u8], name: &[u8], path: &[u8]) -> usize
+    ensures { λ r. ⌜ r ≡ decide dialect (now (file .entry)) (now (name .entry)) (now (path .entry)) .line .number ⌝ }
 {
     let classes = octets::classes();
-    let answer = decide::answers::decide(&classes, false, file, name, path);
+    let answer = decide::answers::decide(&classes, false, file, name, path, dialect);
     answer.line.number
 }
 
 // Where that rule's pattern begins in the file, counted from 0: 0 where none decided.
 #[no_mangle]
-pub extern "C" fn robots_decide_place(file: &[u8], name: &[u8], path: &[u8]) -> usize
-    ensures { λ r. ⌜ r ≡ decide (now (file .entry)) (now (name .entry)) (now (path .entry)) .place .offset ⌝ }
+pub extern "C" fn robots_decide_place(
+    dialect: usize,
+    file: &[u8],
+    name: &[u8],
+    path: &[u8],
+) -> usize
+    ensures { λ r. ⌜ r ≡ decide dialect (now (file .entry)) (now (name .entry)) (now (path .entry)) .place .offset ⌝ }
 {
     let classes = octets::classes();
-    let answer = decide::answers::decide(&classes, false, file, name, path);
+    let answer = decide::answers::decide(&classes, false, file, name, path, dialect);
     answer.place.offset
 }
 
 // How many octets that pattern has: 0 where none decided. From their place on, they lie inside the file.
 #[no_mangle]
-pub extern "C" fn robots_decide_length(file: &[u8], name: &[u8], path: &[u8]) -> usize
-    ensures { λ r. ⌜ r ≡ decide (now (file .entry)) (now (name .entry)) (now (path .entry)) .length ⌝ }
-    ensures { λ r. ⌜ decide (now (file .entry)) (now (name .entry)) (now (path .entry)) .place .offset + r ≤ length (now (file .entry)) ⌝ }
+pub extern "C" fn robots_decide_length(
+    dialect: usize,
+    file: &[u8],
+    name: &[u8],
+    path: &[u8],
+) -> usize
+    ensures { λ r. ⌜ r ≡ decide dialect (now (file .entry)) (now (name .entry)) (now (path .entry)) .length ⌝ }
+    ensures { λ r. ⌜ decide dialect (now (file .entry)) (now (name .entry)) (now (path .entry)) .place .offset + r ≤ length (now (file .entry)) ⌝ }
 {
     let classes = octets::classes();
-    let answer = decide::answers::decide(&classes, false, file, name, path);
+    let answer = decide::answers::decide(&classes, false, file, name, path, dialect);
     answer.length
 }
 
 // The unreadable agent and rule lines of the whole file.
 #[no_mangle]
-pub extern "C" fn robots_decide_unread(file: &[u8], name: &[u8], path: &[u8]) -> usize
-    ensures { λ r. ⌜ r ≡ decide (now (file .entry)) (now (name .entry)) (now (path .entry)) .unread ⌝ }
+pub extern "C" fn robots_decide_unread(
+    dialect: usize,
+    file: &[u8],
+    name: &[u8],
+    path: &[u8],
+) -> usize
+    ensures { λ r. ⌜ r ≡ decide dialect (now (file .entry)) (now (name .entry)) (now (path .entry)) .unread ⌝ }
 {
     let classes = octets::classes();
-    let answer = decide::answers::decide(&classes, true, file, name, path);
+    let answer = decide::answers::decide(&classes, true, file, name, path, dialect);
     answer.unread
 }
 
 // The pairs of octets that the walks of the applying rules compare, at most their summed weights times the octets of the normalised path.
 #[no_mangle]
-pub extern "C" fn robots_decide_compared(file: &[u8], name: &[u8], path: &[u8]) -> usize
-    ensures { λ r. ⌜ r ≡ decide (now (file .entry)) (now (name .entry)) (now (path .entry)) .compared ⌝ }
-    ensures { λ r. ⌜ r ≤ total (weightOf (now (file .entry))) (walkedRules (now (file .entry)) (now (name .entry))) * length (normalPath (now (path .entry))) ⌝ }
+pub extern "C" fn robots_decide_compared(
+    dialect: usize,
+    file: &[u8],
+    name: &[u8],
+    path: &[u8],
+) -> usize
+    ensures { λ r. ⌜ r ≡ decide dialect (now (file .entry)) (now (name .entry)) (now (path .entry)) .compared ⌝ }
+    ensures { λ r. ⌜ r ≤ total (weightIn (dialectOf dialect) (now (file .entry))) (walkedRules dialect (now (file .entry)) (now (name .entry)) (now (path .entry))) * length (normalPath (now (path .entry))) ⌝ }
 {
     let classes = octets::classes();
-    let answer = decide::answers::decide(&classes, false, file, name, path);
+    let answer = decide::answers::decide(&classes, false, file, name, path, dialect);
     answer.compared
 }
 

@@ -68,26 +68,26 @@ runs-last endMark text k e x =
     let h : e < length text = omega (arith, eqb-false e (length text) q, x .within) in
     rw (q, runs-some text e h (x .stop h)) (sym (and-false endMark)))
 
-last-normal : (endMark : Bool) (rs : List (List ℕ)) → isLast endMark (map normalRun rs) ≡ isLast endMark rs
+last-normal : (endMark : Bool) (rs : List (List ℕ)) → isLast endMark (map (normalRun true) rs) ≡ isLast endMark rs
 last-normal endMark [] = refl
 last-normal endMark (r ∷ rs) = refl
 
 -- a run that is reached is normalised, and one that isn't leaves the scratch
 module _ (endMark : Bool) (r : List ℕ) (rs : List (List ℕ)) (path : List ℕ) (w : Walked) (scratch : List ℕ) where
   abbrev after : List ℕ → List ℕ
-  after s = scratchLater endMark rs path (next (isLast endMark rs) (normalRun r) path w) s
+  after s = scratchLater endMark rs path (next (isLast endMark rs) (normalRun true r) path w) s
 
-  scratch-reached : w .stood ≡ true → scratchLater endMark (r ∷ rs) path w scratch ≡ after (runScratch r scratch)
+  scratch-reached : w .stood ≡ true → scratchLater endMark (r ∷ rs) path w scratch ≡ after (runScratch true r scratch)
   unfolding scratchLater
-  scratch-reached e = ap (λ (b : Bool). after (if b then runScratch r scratch else scratch)) e
+  scratch-reached e = ap (λ (b : Bool). after (if b then runScratch true r scratch else scratch)) e
 
-  later-reached : later endMark (map normalRun (r ∷ rs)) path w ≡ later endMark (map normalRun rs) path (next (isLast endMark rs) (normalRun r) path w)
+  later-reached : later endMark (map (normalRun true) (r ∷ rs)) path w ≡ later endMark (map (normalRun true) rs) path (next (isLast endMark rs) (normalRun true r) path w)
   unfolding later
-  later-reached = ap (λ (b : Bool). later endMark (map normalRun rs) path (next b (normalRun r) path w)) (last-normal endMark rs)
+  later-reached = ap (λ (b : Bool). later endMark (map (normalRun true) rs) path (next b (normalRun true r) path w)) (last-normal endMark rs)
 
   scratch-passed : w .stood ≡ false → scratchLater endMark (r ∷ rs) path w scratch ≡ after scratch
   unfolding scratchLater
-  scratch-passed e = ap (λ (b : Bool). after (if b then runScratch r scratch else scratch)) e
+  scratch-passed e = ap (λ (b : Bool). after (if b then runScratch true r scratch else scratch)) e
 
 scratch-kept : (endMark : Bool) (rs : List (List ℕ)) (path : List ℕ) (w : Walked) (scratch : List ℕ) → w .stood ≡ false
     → scratchLater endMark rs path w scratch ≡ scratch
@@ -95,7 +95,7 @@ unfolding scratchLater
 scratch-kept endMark [] path w scratch e = refl
 scratch-kept endMark (r ∷ rs) path w scratch e =
     scratch-passed endMark r rs path w scratch e
-    ∙ ap (λ (v : Walked). scratchLater endMark rs path v scratch) (next-kept (normalRun r) path w (isLast endMark rs) e)
+    ∙ ap (λ (v : Walked). scratchLater endMark rs path v scratch) (next-kept (normalRun true r) path w (isLast endMark rs) e)
     ∙ scratch-kept endMark rs path w scratch e
 
 -- what the walk comes to from the rest t of a text on, where it stands at w, and what it leaves in the scratch
@@ -113,7 +113,7 @@ module _ (endMark : Bool) (text path : List ℕ) where
 
   -- after the first run, which ends at e
   pub walk-start : (e : ℕ) (last : Bool) (w : Walked) (scratch m : List ℕ) → RunEnd text 0 e → last ≡ (endMark && eqb e (length text))
-      → w ≡ first last (normalRun (take e text)) path → m ≡ runScratch (take e text) scratch
+      → w ≡ first last (normalRun true (take e text)) path → m ≡ runScratch true (take e text) scratch
       → outcomeFrom endMark (drop e text) path w m ≡ outcome scratch
   unfolding walkText scratchText walkRuns
   walk-start e last w scratch m x last-is w-is m-is =
@@ -123,7 +123,7 @@ module _ (endMark : Bool) (text path : List ℕ) where
   -- after a later run, from the star at e up to f
   pub walk-turn : (e f : ℕ) (last : Bool) (w v : Walked) (scratch m : List ℕ) → e < length text → isStar (getD text e 0) ≡ true → w .stood ≡ true
       → RunEnd text (e + 1) f → last ≡ (endMark && eqb f (length text))
-      → v ≡ next last (normalRun (take (f - (e + 1)) (drop (e + 1) text))) path w → m ≡ runScratch (take (f - (e + 1)) (drop (e + 1) text)) scratch
+      → v ≡ next last (normalRun true (take (f - (e + 1)) (drop (e + 1) text))) path w → m ≡ runScratch true (take (f - (e + 1)) (drop (e + 1) text)) scratch
       → outcomeFrom endMark (drop f text) path v m ≡ outcomeFrom endMark (drop e text) path w scratch
   walk-turn e f last w v scratch m l h s x last-is v-is m-is =
       let r = firstRun (drop (e + 1) text) in

@@ -18,9 +18,9 @@ pub front-read : (v memory l : List ℕ) (n : ℕ) → n ≡ length v → l ≡ 
 front-read v memory l n h e = rw (h, e) (take-append-seam v _)
 
 -- a run that fits: the first n octets of the memory m are its own
-pub record Fits (run m : List ℕ) (n : ℕ) : Type 0 where
+pub record Fits (stars : Bool) (run m : List ℕ) (n : ℕ) : Type 0 where
   pub room : n ≤ length m
-  pub read : take n m ≡ normalRun run
+  pub read : take n m ≡ normalRun stars run
 
 -- what `runOf` tells, as a test and as a number
 abbrev fitted : Written → Bool
@@ -31,24 +31,24 @@ abbrev octetsOf : Written → ℕ
 octetsOf (Written.Octets n) = n
 octetsOf Written.NoRoom = 0
 
-module _ (run scratch : List ℕ) where
-  fitted-run : fitted (runOf run scratch) ≡ leb (length (normalRun run)) (length scratch)
+module _ (stars : Bool) (run scratch : List ℕ) where
+  fitted-run : fitted (runOf stars run scratch) ≡ leb (length (normalRun stars run)) (length scratch)
   unfolding runOf
-  fitted-run = split (leb (length (normalRun run)) (length scratch)) (λ f. rw f) (λ f. rw f)
+  fitted-run = split (leb (length (normalRun stars run)) (length scratch)) (λ f. rw f) (λ f. rw f)
 
-  octets-run : leb (length (normalRun run)) (length scratch) ≡ true → octetsOf (runOf run scratch) ≡ length (normalRun run)
+  octets-run : leb (length (normalRun stars run)) (length scratch) ≡ true → octetsOf (runOf stars run scratch) ≡ length (normalRun stars run)
   unfolding runOf
   octets-run f = rw f
 
-  pub run-fits : (n : ℕ) (m : List ℕ) → runOf run scratch ≡ Written.Octets n → m ≡ runScratch run scratch → length m ≡ length scratch → Fits run m n
+  pub run-fits : (n : ℕ) (m : List ℕ) → runOf stars run scratch ≡ Written.Octets n → m ≡ runScratch stars run scratch → length m ≡ length scratch → Fits stars run m n
   unfolding runScratch
   run-fits n m e m-is kept =
-      let f : leb (length (normalRun run)) (length scratch) ≡ true = sym fitted-run ∙ ap fitted e in
-      let q : n ≡ length (normalRun run) = sym (ap octetsOf e) ∙ octets-run f in
+      let f : leb (length (normalRun stars run)) (length scratch) ≡ true = sym fitted-run ∙ ap fitted e in
+      let q : n ≡ length (normalRun stars run) = sym (ap octetsOf e) ∙ octets-run f in
       record {
-        room = omega (arith, q, leb-true (length (normalRun run)) (length scratch) f, kept);
-        read = front-read (normalRun run) scratch m n q (m-is ∙ rw f);
+        room = omega (arith, q, leb-true (length (normalRun stars run)) (length scratch) f, kept);
+        read = front-read (normalRun stars run) scratch m n q (m-is ∙ rw f);
       }
 
-  pub run-outgrows : runOf run scratch ≡ Written.NoRoom → length scratch < length (normalRun run)
+  pub run-outgrows : runOf stars run scratch ≡ Written.NoRoom → length scratch < length (normalRun stars run)
   run-outgrows e = leb-false _ _ (sym fitted-run ∙ ap fitted e)

@@ -1,6 +1,6 @@
 //! Files, names and paths at their limits, with counts worked out by hand.
 
-use evaluator::Decision;
+use evaluator::{Decision, RFC9309};
 
 use crate::ask::exact;
 use crate::deciding::{check_decide, check_decision, check_no_rule, check_refused_decision};
@@ -250,7 +250,7 @@ fn a_dear_file() {
     let expected = times * (1_929 * 355 + 3_859);
     assert_eq!((times, expected), (4_031, 2_775_964_274));
     let given = [exact(&file), exact(b"a"), exact(&path)];
-    let compared = library::decide_compared(&given[0], &given[1], &given[2]);
+    let compared = library::decide_compared(RFC9309, &given[0], &given[1], &given[2]);
     assert_eq!(compared, expected);
     assert_eq!(evaluator::decide(&file, b"a", &path).compared, expected);
     // each pattern weighs the star and its run
@@ -265,8 +265,8 @@ fn the_count_is_bounded() {
     let (mut most, mut dear) = (0, 0);
     for case in generator::derived_decide_cases(generator::SEED, 20_000) {
         let (file, name, path) = (&case.file, &case.name, &case.path);
-        let compared = library::decide_compared(file, name, path);
-        let bound = evaluator::compared_bound(file, name, path);
+        let compared = library::decide_compared(RFC9309, file, name, path);
+        let bound = evaluator::compared_bound(RFC9309, file, name, path);
         assert!(
             compared <= bound,
             "{compared} compared, bound {bound}: {case:?}"

@@ -2,7 +2,9 @@
 
 use std::thread;
 
-use crate::deciding::{decide_in_place, question_shown};
+use evaluator::{DRAFT1996, RFC9309};
+
+use crate::deciding::{numbers_in, question_shown};
 use crate::texts::{lengthened, slash_and, surrounded, MOST_FILE, MOST_PATH};
 
 /// What could be taken for a part of a file, a name or a path, before and
@@ -17,7 +19,7 @@ const NEIGHBOURS: [(&str, &str); 7] = [
     ("/", "$"),
 ];
 
-const FILES: [&str; 9] = [
+const FILES: [&str; 10] = [
     "",
     "user-agent:a\ndisallow:/",
     "user-agent:a\ndisallow:/a\r",
@@ -27,6 +29,7 @@ const FILES: [&str; 9] = [
     "\nuser-agent:a\ndisallow:",
     "user-agent:a\ndisallow:*",
     "user-agent:a\nallow:*a",
+    "user-agent:a\ndisallow:/a$",
 ];
 
 /// Names and paths.
@@ -37,11 +40,13 @@ const ASKED: [(&str, &str); 5] = [("a", "/"), ("a", "/a"), ("a", "/%"), ("", "/"
 fn check_inside([file, name, path]: [&str; 3], (before, after): (&str, &str), start: usize) {
     let around = [file, name, path].map(|text| surrounded(text, before, after, start));
     let inside = |at: usize, text: &str| &around[at][start..start + text.len()];
-    let answer = decide_in_place(inside(0, file), inside(1, name), inside(2, path));
-    let (file, name, path) = (file.as_bytes(), name.as_bytes(), path.as_bytes());
-    let alone = evaluator::decide(file, name, path);
-    let message = question_shown(file, name, path);
-    assert_eq!(answer, alone, "{message} at {start} behind {before:?}");
+    for dialect in [RFC9309, DRAFT1996] {
+        let answer = numbers_in(dialect, inside(0, file), inside(1, name), inside(2, path));
+        let (file, name, path) = (file.as_bytes(), name.as_bytes(), path.as_bytes());
+        let alone = evaluator::decide_in(dialect, file, name, path);
+        let message = question_shown(file, name, path);
+        assert_eq!(answer, alone, "{message} at {start} behind {before:?}");
+    }
 }
 
 /// File, name and path inside larger memory, from every place of a word: what
@@ -76,9 +81,11 @@ fn the_question_in_one_memory() {
             (memory.as_slice(), &memory[start..]),
         ] {
             for name in [name, file, path] {
-                let answer = decide_in_place(file, name, path);
-                let expected = evaluator::decide(file, name, path);
-                assert_eq!(answer, expected, "{}", question_shown(file, name, path));
+                for dialect in [RFC9309, DRAFT1996] {
+                    let answer = numbers_in(dialect, file, name, path);
+                    let expected = evaluator::decide_in(dialect, file, name, path);
+                    assert_eq!(answer, expected, "{}", question_shown(file, name, path));
+                }
             }
         }
     }
@@ -104,15 +111,17 @@ fn a_small_stack_is_enough() {
         ("", "user-agent:a\nallow:/*a\n"),
     ] {
         let file = lengthened(beginning.as_bytes(), block.as_bytes(), b"", MOST_FILE);
-        let expected = evaluator::decide(&file, b"a", &path);
-        let answer = thread::scope(|scope| {
-            thread::Builder::new()
-                .stack_size(STACK)
-                .spawn_scoped(scope, || decide_in_place(&file, b"a", &path))
-                .expect("a thread can be started")
-                .join()
-                .expect("the thread ends")
-        });
-        assert_eq!(answer, expected, "{beginning:?} and {block:?}");
+        for dialect in [RFC9309, DRAFT1996] {
+            let expected = evaluator::decide_in(dialect, &file, b"a", &path);
+            let answer = thread::scope(|scope| {
+                thread::Builder::new()
+                    .stack_size(STACK)
+                    .spawn_scoped(scope, || numbers_in(dialect, &file, b"a", &path))
+                    .expect("a thread can be started")
+                    .join()
+                    .expect("the thread ends")
+            });
+            assert_eq!(answer, expected, "{dialect}: {beginning:?} and {block:?}");
+        }
     }
 }

@@ -1,7 +1,12 @@
 //! Every refusal of a decision, alone and with each of the others. "Each entry
 //! tests the conditions that concern it, the smallest number first".
 
-use crate::deciding::{check_no_rule, check_refused_decision};
+use evaluator::{Decision, DRAFT1996, RFC9309};
+
+use crate::ask::exact;
+use crate::deciding::{
+    check_decide_in, check_no_rule, check_refused_decision, numbers_in, refused,
+};
 use crate::path_refusals::{paths, Inputs};
 use crate::texts::{MOST_FILE, MOST_NAME};
 
@@ -35,25 +40,40 @@ fn names() -> Inputs {
     ]
 }
 
-/// Each file with each name and each path: the smallest number is given, and
-/// without one there is an answer.
+/// An answer by no rule, without unread lines and without a walk.
+const NO_RULE: Decision = Decision {
+    refusal: 0,
+    disallow: false,
+    line: 0,
+    place: 0,
+    length: 0,
+    unread: 0,
+    compared: 0,
+};
+
+/// Each file with each name and each path, in both dialects: the smallest number
+/// is given, and without one there is an answer.
 #[test]
 fn the_smallest_number_first() {
+    for dialect in [RFC9309, DRAFT1996] {
+        check_smallest_number(dialect);
+    }
+}
+
+fn check_smallest_number(dialect: usize) {
     let mut seen = [0; 6];
     for (file, of_file) in files() {
         for (name, of_name) in names() {
             for (path, of_path) in paths() {
                 let refusals = of_file.into_iter().chain(of_name).chain(of_path);
-                match refusals.min() {
-                    Some(refusal) => {
-                        seen[refusal] += 1;
-                        check_refused_decision(&file, &name, &path, refusal);
-                    }
-                    None => {
-                        seen[0] += 1;
-                        check_no_rule(&file, &name, &path, 0, 0);
-                    }
-                }
+                let refusal = refusals.min().unwrap_or(0);
+                let expected = match refusal {
+                    0 => NO_RULE,
+                    _ => refused(refusal),
+                };
+                seen[refusal] += 1;
+                let answer = check_decide_in(dialect, &file, &name, &path);
+                assert_eq!(answer, expected, "{dialect}: {name:?} {path:?}");
             }
         }
     }
@@ -114,6 +134,58 @@ fn every_octet_of_a_path() {
                 0..=0x20 | b'#' => check_refused_decision(b"", b"a", &path, 5),
                 _ => check_no_rule(b"", b"a", &path, 0, 0),
             }
+        }
+    }
+}
+
+/// Neither 0 nor 1, in however many of their bits they look like them.
+const UNKNOWN: [u64; 14] = [
+    2,
+    3,
+    4,
+    20,
+    255,
+    256,
+    257,
+    1 << 16,
+    (1 << 16) + 1,
+    1 << 32,
+    (1 << 32) + 1,
+    1 << 63,
+    (1 << 63) + 1,
+    u64::MAX,
+];
+
+/// "Refusals: 20 for an unknown dialect, first of all." (M-113) It is given
+/// where no other holds, and where each of the others does.
+#[test]
+fn an_unknown_dialect_first_of_all() {
+    let mut asked = 0;
+    let expected = refused(20);
+    for dialect in UNKNOWN {
+        let dialect = usize::try_from(dialect).expect("a usize of 64 bits");
+        for (file, _) in files() {
+            let file = exact(&file);
+            for (name, _) in names() {
+                for (path, _) in paths() {
+                    let answer = numbers_in(dialect, &file, &exact(&name), &exact(&path));
+                    assert_eq!(answer, expected, "{dialect}: {name:?} {path:?}");
+                    asked += 1;
+                }
+            }
+        }
+    }
+    assert_eq!(asked, 14 * 6 * 11 * 22);
+}
+
+/// Unknown dialects are refused whatever the file says.
+#[test]
+fn an_unknown_dialect_opens_nothing() {
+    for case in generator::draft_decide_cases(generator::SEED, 2_000) {
+        for dialect in UNKNOWN {
+            let dialect = usize::try_from(dialect).expect("a usize of 64 bits");
+            let answer = check_decide_in(dialect, &case.file, &case.name, &case.path);
+            assert_eq!(answer, refused(20), "{dialect}: {case:?}");
         }
     }
 }

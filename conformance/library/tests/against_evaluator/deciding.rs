@@ -1,25 +1,30 @@
 //! One question for a decision, the library's answer whole, and the evaluator's
 //! beside it.
 
-use evaluator::{Decision, LineKind};
+use evaluator::{Decision, LineKind, RFC9309};
 
 use crate::ask::{exact, shown};
 
-/// The library's seven numbers for a file, a name and a path, where they
-/// stand.
-pub fn decide_in_place(file: &[u8], name: &[u8], path: &[u8]) -> Decision {
-    let disallow = library::decide_disallow(file, name, path);
+/// The library's seven numbers for a dialect, a file, a name and a path, where
+/// they stand.
+pub fn numbers_in(dialect: usize, file: &[u8], name: &[u8], path: &[u8]) -> Decision {
+    let disallow = library::decide_disallow(dialect, file, name, path);
     let message = || question_shown(file, name, path);
     assert!(disallow <= 1, "disallow {disallow}, {}", message());
     Decision {
-        refusal: library::decide_refusal(file, name, path),
+        refusal: library::decide_refusal(dialect, file, name, path),
         disallow: disallow == 1,
-        line: library::decide_line(file, name, path),
-        place: library::decide_place(file, name, path),
-        length: library::decide_length(file, name, path),
-        unread: library::decide_unread(file, name, path),
-        compared: library::decide_compared(file, name, path),
+        line: library::decide_line(dialect, file, name, path),
+        place: library::decide_place(dialect, file, name, path),
+        length: library::decide_length(dialect, file, name, path),
+        unread: library::decide_unread(dialect, file, name, path),
+        compared: library::decide_compared(dialect, file, name, path),
     }
+}
+
+/// The same in the RFC's dialect.
+pub fn decide_in_place(file: &[u8], name: &[u8], path: &[u8]) -> Decision {
+    numbers_in(RFC9309, file, name, path)
 }
 
 /// A question for a message.
@@ -29,9 +34,9 @@ pub fn question_shown(file: &[u8], name: &[u8], path: &[u8]) -> String {
 }
 
 /// What the library decides.
-pub fn decide(file: &[u8], name: &[u8], path: &[u8]) -> Decision {
+fn decide_in(dialect: usize, file: &[u8], name: &[u8], path: &[u8]) -> Decision {
     let given = [exact(file), exact(name), exact(path)];
-    let answer = decide_in_place(&given[0], &given[1], &given[2]);
+    let answer = numbers_in(dialect, &given[0], &given[1], &given[2]);
     assert!(
         *given[0] == *file && *given[1] == *name && *given[2] == *path,
         "changed: {}",
@@ -40,15 +45,20 @@ pub fn decide(file: &[u8], name: &[u8], path: &[u8]) -> Decision {
     answer
 }
 
+/// The decision is the evaluator's, in the RFC's dialect.
+pub fn check_decide(file: &[u8], name: &[u8], path: &[u8]) -> Decision {
+    check_decide_in(RFC9309, file, name, path)
+}
+
 /// The decision is the evaluator's, and its octets are those of its line;
 /// gives it back.
-pub fn check_decide(file: &[u8], name: &[u8], path: &[u8]) -> Decision {
-    let answer = decide(file, name, path);
-    let expected = evaluator::decide(file, name, path);
+pub fn check_decide_in(dialect: usize, file: &[u8], name: &[u8], path: &[u8]) -> Decision {
+    let answer = decide_in(dialect, file, name, path);
+    let expected = evaluator::decide_in(dialect, file, name, path);
     assert_eq!(
         answer,
         expected,
-        "library and evaluator on {}",
+        "library and evaluator in dialect {dialect} on {}",
         question_shown(file, name, path)
     );
     check_deciding_octets(file, &answer);
@@ -102,8 +112,8 @@ pub fn check_decision(question: (&[u8], &[u8], &[u8]), expected: Decision) {
 }
 
 /// "A refused decision holds its number, disallow, and zeros."
-pub fn check_refused_decision(file: &[u8], name: &[u8], path: &[u8], refusal: usize) {
-    let expected = Decision {
+pub fn refused(refusal: usize) -> Decision {
+    Decision {
         refusal,
         disallow: true,
         line: 0,
@@ -111,8 +121,12 @@ pub fn check_refused_decision(file: &[u8], name: &[u8], path: &[u8], refusal: us
         length: 0,
         unread: 0,
         compared: 0,
-    };
-    check_decision((file, name, path), expected);
+    }
+}
+
+/// Library and evaluator refuse, in the RFC's dialect.
+pub fn check_refused_decision(file: &[u8], name: &[u8], path: &[u8], refusal: usize) {
+    check_decision((file, name, path), refused(refusal));
 }
 
 /// An answered decision by no rule: allow.

@@ -3,20 +3,21 @@
 use examples::{definition_rows, Asked};
 
 use crate::ask;
-use crate::deciding::check_decide;
+use crate::deciding::check_decide_in;
 
 /// How many rows ask the library: all but those of the program.
-const ROWS: usize = 209;
+const ROWS: usize = 261;
 
 /// Whether the row asks the library.
 fn check(asked: &Asked) -> bool {
     match asked {
         Asked::Decide {
+            dialect,
             file,
             name,
             path,
             told,
-        } => assert_eq!(told.of(&check_decide(file, name, path)), *told),
+        } => assert_eq!(told.of(&check_decide_in(*dialect, file, name, path)), *told),
         Asked::Line { line, expected } => assert_eq!(ask::line(line), *expected),
         Asked::Match {
             pattern,

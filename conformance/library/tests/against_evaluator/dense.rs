@@ -37,7 +37,7 @@ const LEAST: [(&str, usize); 8] = [
 ];
 
 /// What a decision is counted as.
-fn sort(decision: &Decision) -> String {
+pub fn sort(decision: &Decision) -> String {
     match decision {
         Decision { refusal: 1.., .. } => format!("refusal {}", decision.refusal),
         Decision { line: 0, .. } => "allow by no rule".to_string(),

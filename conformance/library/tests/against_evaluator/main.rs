@@ -12,6 +12,7 @@ mod decide_refusals;
 mod deciding;
 mod definition_rows;
 mod dense;
+mod draft;
 mod generated;
 mod generated_paths;
 mod limits;

@@ -4,28 +4,35 @@
 use examples::{Expected, Question};
 
 use crate::ask;
-use crate::deciding::{check_decide, question_shown};
+use crate::deciding::{check_decide_in, question_shown};
 use crate::texts::MOST_NORMALISED;
 
-/// How many rows ask for a decision, for a normalised path, for a line's kind,
-/// and for a match.
-const DECIDE_ROWS: usize = 158;
+/// How many rows ask for a decision in each dialect, for a normalised path, for a
+/// line's kind, and for a match.
+const DECIDE_ROWS: [usize; 2] = [163, 42];
 const NORMALISE_ROWS: usize = 16;
 const LINE_ROWS: usize = 31;
 const MATCH_ROWS: usize = 89;
 
 #[test]
 fn every_example_of_a_decision() {
-    let mut rows = 0;
+    let mut rows = [0; 2];
     for row in examples::all().unwrap_or_else(|fault| panic!("{fault}")) {
-        let (Question::Decide { file, name, path }, Expected::Decide(expected)) =
-            (&row.question, &row.expected)
+        let Question::Decide {
+            dialect,
+            file,
+            name,
+            path,
+        } = &row.question
         else {
             continue;
         };
-        rows += 1;
+        let Expected::Decide(expected) = &row.expected else {
+            panic!("{}: no decision is expected", row.id);
+        };
+        rows[*dialect] += 1;
         assert_eq!(
-            check_decide(file, name, path),
+            check_decide_in(*dialect, file, name, path),
             *expected,
             "{}: {}",
             row.id,

@@ -7,11 +7,12 @@ use evaluator::Decision;
 use examples::{Asked, Expected, Question};
 use generator::SEED;
 
-use crate::deciding::{check_decide, question_shown};
+use crate::deciding::{check_decide, check_decide_in, question_shown};
 
-/// How many of the examples, and of the definitions' rows, ask for a decision.
-const EXAMPLES: usize = 158;
-const ROWS: usize = 111;
+/// How many of the examples ask for a decision in each dialect, and how many of
+/// the definitions' rows.
+const EXAMPLES: [usize; 2] = [163, 42];
+const ROWS: usize = 163;
 
 /// Generated questions of each of two sorts, with long files, and walks of each
 /// of two sorts.
@@ -21,16 +22,21 @@ const WALKS: usize = 50_000;
 
 #[test]
 fn every_example_of_the_sources() {
-    let mut asked = 0;
+    let mut asked = [0; 2];
     for row in examples::all().unwrap_or_else(|fault| panic!("{fault}")) {
-        let (Question::Decide { file, name, path }, Expected::Decide(expected)) =
-            (&row.question, &row.expected)
+        let Question::Decide {
+            dialect,
+            file,
+            name,
+            path,
+        } = &row.question
         else {
             continue;
         };
-        asked += 1;
+        asked[*dialect] += 1;
+        let answer = Expected::Decide(check_decide_in(*dialect, file, name, path));
         let message = question_shown(file, name, path);
-        assert_eq!(check_decide(file, name, path), *expected, "{message}");
+        assert_eq!(answer, row.expected, "{message}");
     }
     assert_eq!(asked, EXAMPLES, "examples that ask for a decision");
 }
@@ -40,6 +46,7 @@ fn every_row_of_the_definitions() {
     let mut asked = 0;
     for row in examples::definition_rows() {
         let Asked::Decide {
+            dialect,
             file,
             name,
             path,
@@ -49,7 +56,7 @@ fn every_row_of_the_definitions() {
             continue;
         };
         asked += 1;
-        let answer = check_decide(&file, &name, &path);
+        let answer = check_decide_in(dialect, &file, &name, &path);
         assert_eq!(told.of(&answer), told, "{}", row.place);
     }
     assert_eq!(asked, ROWS, "rows that ask for a decision");

@@ -27,6 +27,8 @@ mod decide_refusals;
 mod deciding;
 #[path = "../../../library/tests/against_evaluator/dense.rs"]
 mod dense;
+#[path = "../../../library/tests/against_evaluator/draft.rs"]
+mod draft;
 #[path = "../../../library/tests/against_evaluator/generated_paths.rs"]
 mod generated_paths;
 #[path = "../../../library/tests/against_evaluator/match_limits.rs"]

@@ -2,32 +2,32 @@
 
 use plain::{decide, match_pattern};
 
-pub fn decide_refusal(file: &[u8], name: &[u8], path: &[u8]) -> usize {
-    decide(file, name, path).refusal
+pub fn decide_refusal(dialect: usize, file: &[u8], name: &[u8], path: &[u8]) -> usize {
+    decide(dialect, file, name, path).refusal
 }
 
-pub fn decide_disallow(file: &[u8], name: &[u8], path: &[u8]) -> usize {
-    decide(file, name, path).disallow
+pub fn decide_disallow(dialect: usize, file: &[u8], name: &[u8], path: &[u8]) -> usize {
+    decide(dialect, file, name, path).disallow
 }
 
-pub fn decide_line(file: &[u8], name: &[u8], path: &[u8]) -> usize {
-    decide(file, name, path).line
+pub fn decide_line(dialect: usize, file: &[u8], name: &[u8], path: &[u8]) -> usize {
+    decide(dialect, file, name, path).line
 }
 
-pub fn decide_place(file: &[u8], name: &[u8], path: &[u8]) -> usize {
-    decide(file, name, path).place
+pub fn decide_place(dialect: usize, file: &[u8], name: &[u8], path: &[u8]) -> usize {
+    decide(dialect, file, name, path).place
 }
 
-pub fn decide_length(file: &[u8], name: &[u8], path: &[u8]) -> usize {
-    decide(file, name, path).length
+pub fn decide_length(dialect: usize, file: &[u8], name: &[u8], path: &[u8]) -> usize {
+    decide(dialect, file, name, path).length
 }
 
-pub fn decide_unread(file: &[u8], name: &[u8], path: &[u8]) -> usize {
-    decide(file, name, path).unread
+pub fn decide_unread(dialect: usize, file: &[u8], name: &[u8], path: &[u8]) -> usize {
+    decide(dialect, file, name, path).unread
 }
 
-pub fn decide_compared(file: &[u8], name: &[u8], path: &[u8]) -> usize {
-    decide(file, name, path).compared
+pub fn decide_compared(dialect: usize, file: &[u8], name: &[u8], path: &[u8]) -> usize {
+    decide(dialect, file, name, path).compared
 }
 
 pub fn match_refusal(pattern: &[u8], path: &[u8]) -> usize {

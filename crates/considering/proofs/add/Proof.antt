@@ -4,7 +4,7 @@ use mathlib.Core.Logic.{⊎-elim}
 use native.Mathlib.Omega.{arith}
 use borrow.Author.Needs.{needs}
 use Rattle.considering.specs.Considering.{added}
-use Rattle.considering.proofs.Leads.{better-later, heaviest, added-past}
+use Rattle.considering.proofs.Leads.{better-later, weightOn, added-past}
 use Rattle.considering.proofs.add.Statement.{statement}
 use Rattle.considering.proofs.add.Tie as tie
 
@@ -22,9 +22,9 @@ module _ (c : tie.At-match-came) where
   abbrev entry : tie.Start
   entry = c .before .before .before .before
 
-  told : c .match .heaviest ≡ heaviest (entry .args .c) (entry .args .side)
+  told : c .match .heaviest ≡ weightOn (entry .args .c) (entry .args .side)
   told =
-      let known = heaviest (entry .args .c) in
+      let known = weightOn (entry .args .c) in
       ⊎-elim (λ w. w .2 ∙ ap known (sym (w .1 .given .1))) (λ w. w .2 ∙ ap known (sym (w .1 .given .1))) (c .match .came)
 
 returns : tie.Need-returns
@@ -43,14 +43,14 @@ unfolding added
 returns-2 c =
     let m = c .before .before .before .before in
     let a = entry m .args in
-    let e = c .enum-told3 .given .1 in rw (e, better-later (a .c .allow) (a .rule) (omega (arith, told m, ap (heaviest (a .c)) e)))
+    let e = c .enum-told3 .given .1 in rw (e, better-later (a .c .allow) (a .rule) (omega (arith, told m, ap (weightOn (a .c)) e)))
 
 returns-3 : tie.Need-returns-3
 unfolding added
 returns-3 c =
     let m = c .before .before .before .before in
     let a = entry m .args in
-    let e = c .enum-told4 .given .1 in rw (e, better-later (a .c .disallow) (a .rule) (omega (arith, told m, ap (heaviest (a .c)) e)))
+    let e = c .enum-told4 .given .1 in rw (e, better-later (a .c .disallow) (a .rule) (omega (arith, told m, ap (weightOn (a .c)) e)))
 
 pub add-spec : {M : Type 1} → statement M
 add-spec =

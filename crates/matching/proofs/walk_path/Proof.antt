@@ -12,6 +12,7 @@ use Rattle.protocol.specs.Refusals.{pathRows, refusal}
 use Rattle.protocol.proofs.Sizes.{normal-size}
 use Rattle.protocol.proofs.Limits.{path-known, path-room}
 use Rattle.normal.proofs.Literal.{kept-path}
+use Rattle.protocol.specs.Pattern.{shapeOf}
 use Rattle.walk.specs.Weights.{CountFits}
 use Rattle.matching.proofs.Refusing.{good-path, count-fits}
 use Rattle.matching.proofs.walk_path.Statement.{statement}
@@ -33,7 +34,7 @@ module _ (c : tie.After-may-change) where
   good : refusal (pathRows path) ≡ 0
   good = good-path pattern path (start .pre)
 
-  fits : CountFits pattern (normalPath path)
+  fits : CountFits (shapeOf pattern) (normalPath path)
   fits = count-fits pattern path (start .pre)
 
   three-each : length (normalPath path) ≤ 3 * length path

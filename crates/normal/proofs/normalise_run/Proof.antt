@@ -1,5 +1,4 @@
 -- `normal::normalise_run` meets its contract. Assumes nothing.
-use mathlib.Core.Bool.{true}
 use mathlib.Core.Path.{_≡_, refl, sym, _∙_}
 use lib.Dec.{leb}
 use lib.ListN.{length}
@@ -18,7 +17,7 @@ module _ (c : tie.After-fits2) where
   abbrev entry : tie.Start
   entry = c .before .before .before
 
-  told : leb (length (normal true 0 (entry .args .run .now))) (length (entry .args .scratch .now)) ≡ c .fits2 .result
+  told : leb (length (normal (entry .args .stars) 0 (entry .args .run .now))) (length (entry .args .scratch .now)) ≡ c .fits2 .result
   told = sym (c .fits2 .ensures)
 
 returns : tie.Need-returns

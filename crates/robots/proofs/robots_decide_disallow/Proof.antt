@@ -20,8 +20,8 @@ returns : tie.Need-returns
 returns c =
     let d = c .before in
     let a = d .before .before .before .before .before .before .args in
-    let e : c .side-number .result ≡ sideNumber (decide (a .file .now) (a .name .now) (a .path .now) .side) = c .side-number .ensures ∙ ap (λ (x : Decision). sideNumber (x .side)) (d .decide .ensures) in
-    (e, rw e (decide-number (a .file .now) (a .name .now) (a .path .now)))
+    let e : c .side-number .result ≡ sideNumber (decide (a .dialect) (a .file .now) (a .name .now) (a .path .now) .side) = c .side-number .ensures ∙ ap (λ (x : Decision). sideNumber (x .side)) (d .decide .ensures) in
+    (e, rw e (decide-number (a .dialect) (a .file .now) (a .name .now) (a .path .now)))
 
 pub robots-decide-disallow-spec : {M : Type 1} → statement M
 robots-decide-disallow-spec = tie.close (tie.spec classes-requires decide-requires side-number-requires returns)

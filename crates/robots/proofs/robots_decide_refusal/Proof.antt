@@ -14,8 +14,8 @@ decide-refusal-requires c κs = search needs
 returns : tie.Need-returns
 returns c =
     let a = c .before .before .before .before .before .before .args in
-    let e = c .decide-refusal .ensures ∙ sym (decide-refusal (a .file .now) (a .name .now) (a .path .now)) in
-    (e, rw e (decide-by-table (a .file .now) (a .name .now) (a .path .now)))
+    let e = c .decide-refusal .ensures ∙ sym (decide-refusal (a .dialect) (a .file .now) (a .name .now) (a .path .now)) in
+    (e, rw e (decide-by-table (a .dialect) (a .file .now) (a .name .now) (a .path .now)))
 
 pub robots-decide-refusal-spec : {M : Type 1} → statement M
 robots-decide-refusal-spec = tie.close (tie.spec classes-requires decide-refusal-requires returns)

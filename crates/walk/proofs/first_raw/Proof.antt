@@ -26,10 +26,10 @@ module _ (c : tie.After-known-told) where
   abbrev written : tie.After-normalise-run
   written = c .before .before .before .before .before
 
-  fits : Fits (entry written .args .run .now) (written .normalise-run .last .1 .0) (c .before .n .given .0 .0)
+  fits : Fits (entry written .args .stars) (entry written .args .run .now) (written .normalise-run .last .1 .1 .0) (c .before .n .given .0 .0)
   fits =
       let r = written .normalise-run in
-      run-fits _ (entry written .args .scratch .now) _ _ (sym (r .ensures .0) ∙ c .before .n .given .1) (r .ensures .1) (r .kept .1 .0)
+      run-fits (entry written .args .stars) _ (entry written .args .scratch .now) _ _ (sym (r .ensures .0) ∙ c .before .n .given .1) (r .ensures .1) (r .kept .1 .1 .0)
 
 slice-reshare-prefix-first-run : tie.Need-slice-reshare-prefix-first-run
 slice-reshare-prefix-first-run c = fits c .room
@@ -62,8 +62,8 @@ returns-2 : tie.Need-returns-2
 returns-2 c =
     let s = c .before .before .before .before .before in
     let a = entry s .args in
-    let l = run-outgrows (a .run .now) (a .scratch .now) (sym (s .normalise-run .ensures .0) ∙ c .before .enum-told .given .1) in
-    (c .fail .ensures ∙ sym (first-short (normalRun (a .run .now)) (a .path .now) (a .last) (omega (arith, l))), s .normalise-run .ensures .1)
+    let l = run-outgrows (a .stars) (a .run .now) (a .scratch .now) (sym (s .normalise-run .ensures .0) ∙ c .before .enum-told .given .1) in
+    (c .fail .ensures ∙ sym (first-short (normalRun (a .stars) (a .run .now)) (a .path .now) (a .last) (omega (arith, l))), s .normalise-run .ensures .1)
 
 pub first-raw-spec : {M : Type 1} → statement M
 first-raw-spec =

@@ -1,6 +1,7 @@
 -- `walk::later_raw` meets its contract. Assumes nothing.
 use Prim.Native.Nat.{ℕ}
 use mathlib.Core.Path.{sym, ap, _∙_}
+use mathlib.Core.Bool.{true}
 use mathlib.Core.List.{List}
 use native.Mathlib.Omega.{arith}
 use lib.Seq.{length-take-le}
@@ -26,10 +27,10 @@ module _ (c : tie.After-known-told) where
   abbrev written : tie.After-normalise-run
   written = c .before .before .before .before .before
 
-  fits : Fits (entry written .args .run .now) (written .normalise-run .last .1 .0) (c .before .n .given .0 .0)
+  fits : Fits true (entry written .args .run .now) (written .normalise-run .last .1 .1 .0) (c .before .n .given .0 .0)
   fits =
       let r = written .normalise-run in
-      run-fits _ (entry written .args .scratch .now) _ _ (sym (r .ensures .0) ∙ c .before .n .given .1) (r .ensures .1) (r .kept .1 .0)
+      run-fits true _ (entry written .args .scratch .now) _ _ (sym (r .ensures .0) ∙ c .before .n .given .1) (r .ensures .1) (r .kept .1 .1 .0)
 
 slice-reshare-prefix-later-run : tie.Need-slice-reshare-prefix-later-run
 slice-reshare-prefix-later-run c = fits c .room
@@ -66,8 +67,8 @@ returns-2 c =
     let t = c .before in
     let s = t .before .before .before .before in
     let a = entry s .args in
-    let l = run-outgrows (a .run .now) (a .scratch .now) (sym (s .normalise-run .ensures .0) ∙ t .enum-told .given .1) in
-    (c .fail .ensures ∙ sym (next-short (normalRun (a .run .now)) (a .path .now) (a .w) (a .last) (entry s .pre .1) (omega (arith, l))), s .normalise-run .ensures .1)
+    let l = run-outgrows true (a .run .now) (a .scratch .now) (sym (s .normalise-run .ensures .0) ∙ t .enum-told .given .1) in
+    (c .fail .ensures ∙ sym (next-short (normalRun true (a .run .now)) (a .path .now) (a .w) (a .last) (entry s .pre .1) (omega (arith, l))), s .normalise-run .ensures .1)
 
 pub later-raw-spec : {M : Type 1} → statement M
 later-raw-spec =

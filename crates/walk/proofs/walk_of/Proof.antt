@@ -8,6 +8,8 @@ use lib.ListN.{length}
 use borrow.Author.Needs.{needs}
 use borrow.Author.Tests.{eq-eqb, ne-eqb}
 use Rattle.lists.specs.Lists.{all}
+use Rattle.protocol.specs.declared.Dialect.{Dialect}
+use Rattle.protocol.specs.Pattern.{shapeIn}
 use Rattle.normal.specs.Literal.{literal}
 use Rattle.walk.specs.Texts.{scratchOf}
 use Rattle.walk.proofs.Literal.{literal-walk, front-whole}
@@ -32,12 +34,12 @@ module _ (c : tie.After-literal-front) where
   whole = front-whole pattern _ (c .literal-front .ensures)
 
 returns : tie.Need-returns
-unfolding scratchOf
+unfolding scratchOf shapeIn
 returns c =
     let t = c .before in
     let f = t .before in
     let h : all literal (pattern f) ≡ true = sym (whole f) ∙ eq-eqb _ _ (t .if1 .taken) in
-    (c .first-run .ensures ∙ sym (literal-walk (pattern f) h (start f .args .path .now)), rw h)
+    (c .first-run .ensures ∙ sym (literal-walk (pattern f) h Dialect.Rfc9309 (start f .args .path .now)), rw h)
 
 walk-pattern-requires : tie.Need-walk-pattern-requires
 walk-pattern-requires c κs = search needs

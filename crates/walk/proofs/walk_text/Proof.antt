@@ -77,7 +77,7 @@ module _ (c : tie.At-loop Inv-loop μ-loop) where
 
   -- the scratch keeps its length
   same : length (c .loop .scratch) ≡ length (start .args .scratch .now)
-  same = c .loop .inv .2 ∙ walked .first-raw .kept .1 .1 .1 .0
+  same = c .loop .inv .2 ∙ walked .first-raw .kept .1 .1 .1 .1 .0
 
   -- what is left gives the whole
   gives : outcomeFrom endMark (drop (c .loop .end) text) path (c .loop .w) (c .loop .scratch) ≡ outcome endMark text path (start .args .scratch .now)
@@ -133,8 +133,8 @@ module _ (c : tie.After-find2 Inv-loop μ-loop) where
   -- one run more, whatever says what became of it
   goes-on : (last : Bool) (v : Walked) (m : List ℕ)
       → last ≡ (endMark turn && eqb end (length (text turn)))
-      → v ≡ next last (normalRun run) (path turn) (turn .loop .w)
-      → m ≡ runScratch run (turn .loop .scratch)
+      → v ≡ next last (normalRun true run) (path turn) (turn .loop .w)
+      → m ≡ runScratch true run (turn .loop .scratch)
       → outcomeFrom (endMark turn) (drop end (text turn)) (path turn) v m
       ≡ outcomeFrom (endMark turn) (drop (turn .loop .end) (text turn)) (path turn) (turn .loop .w) (turn .loop .scratch)
   goes-on last v m =
@@ -161,8 +161,8 @@ later-raw-requires c κs =
     let i = c .before .is-last2 in
     let f = c .before .before .before in
     let s = turn f in
-    let v = next (i .result) (normalRun (run f)) (path s) (s .loop .w) in
-    let e = goes-on f (i .result) v (runScratch (run f) (s .loop .scratch)) (i .ensures) refl refl ∙ gives s in (
+    let v = next (i .result) (normalRun true (run f)) (path s) (s .loop .w) in
+    let e = goes-on f (i .result) v (runScratch true (run f) (s .loop .scratch)) (i .ensures) refl refl ∙ gives s in (
       omega (arith, same s, start s .pre .0),
       stood f,
       s .loop .inv .1,

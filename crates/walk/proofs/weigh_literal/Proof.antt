@@ -1,7 +1,5 @@
 -- `walk::weigh_literal` meets its contract. Assumes nothing.
-use mathlib.Core.Path.{_∙_}
 use borrow.Author.Needs.{needs}
-use Rattle.walk.proofs.Weighing.{weighed-literal}
 use Rattle.walk.proofs.weigh_literal.Statement.{statement}
 use Rattle.walk.proofs.weigh_literal.Tie as tie
 
@@ -12,10 +10,7 @@ weighed-walk-requires : tie.Need-weighed-walk-requires
 weighed-walk-requires c κs = search needs
 
 returns : tie.Need-returns
-returns c =
-    let w = c .before .first-run in
-    let s = c .before .before .before .before in
-    c .weighed-walk .ensures ∙ weighed-literal (s .args .pattern .now) (s .args .path .now) (w .result) (s .pre) (w .ensures)
+returns c = rw (c .weighed-walk .ensures, c .before .first-run .ensures)
 
 pub weigh-literal-spec : {M : Type 1} → statement M
 weigh-literal-spec = tie.close (tie.spec first-run-requires weighed-walk-requires returns)

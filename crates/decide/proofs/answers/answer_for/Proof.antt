@@ -43,8 +43,8 @@ returns c =
     let w = g .before .before in
     let a = start w .args in
     c .conclude .ensures
-    ∙ gathered-told (a .file .now) (a .name .now) (a .path .now) (a .whole) (g .gather .result)
-    (g .gather .ensures .0 ∙ ap (λ (x : Audience). passes.told (a .whole) (passes.gathered (a .file .now) (a .name .now) x (a .path .now))) (w .audience-for .ensures .audience))
+    ∙ gathered-told (a .dialect) (a .file .now) (a .name .now) (a .path .now) (a .whole) (g .gather .result)
+    (g .gather .ensures .0 ∙ ap (λ (x : Audience). passes.told (a .whole) (passes.gathered (a .dialect) (a .file .now) (a .name .now) x (a .path .now))) (w .audience-for .ensures .audience))
 
 pub answer-for-spec : {M : Type 1} → statement M
 answer-for-spec =

@@ -17,13 +17,13 @@ returns : tie.Need-returns
 returns c =
     let s = c .before .before .before .before in
     let a = s .args in
-    (rule-not-readable (a .file .now) (a .path .now) (a .at) (a .side) (a .pattern) (s .pre .0) (s .pre .1 .inside) (a .c) (a .applies) (c .match .keys2), refl)
+    (rule-not-readable (a .dialect) (a .file .now) (a .path .now) (a .at) (a .side) (a .pattern) (s .pre .0) (s .pre .1 .inside) (a .c) (a .applies) (c .match .keys2), refl)
 
 returns-2 : tie.Need-returns-2
 returns-2 c =
     let s = c .before .before .before .before .before .before .before in
     let a = s .args in
-    (rule-unheard (a .file .now) (a .path .now) (a .at) (a .side) (a .pattern) (s .pre .0) (s .pre .1 .inside) (a .c) (a .applies) (not-true _ (c .if1 .taken)), refl)
+    (rule-unheard (a .dialect) (a .file .now) (a .path .now) (a .at) (a .side) (a .pattern) (s .pre .0) (s .pre .1 .inside) (a .c) (a .applies) (not-true _ (c .if1 .taken)), refl)
 
 -- the pattern's place in the line, and its length
 module _ (c : tie.After-struct-known2) where
@@ -39,7 +39,7 @@ module _ (c : tie.After-struct-known2) where
   ends : entry .args .at .place .offset + place .offset + size ≤ length (entry .args .file .now)
   ends =
       let a = entry .args in
-      pattern-inside (a .file .now) (a .path .now) (a .at) (a .side) (a .pattern) (entry .pre .0) (entry .pre .1 .inside) (a .c) (a .applies) place size (c .before .before .before .before .pattern .given .1)
+      pattern-inside (a .dialect) (a .file .now) (a .path .now) (a .at) (a .side) (a .pattern) (entry .pre .0) (entry .pre .1 .inside) (a .c) (a .applies) place size (c .before .before .before .before .pattern .given .1)
 
 add-start : tie.Need-add-start
 add-start c = omega (arith, ends c)
@@ -61,7 +61,7 @@ consider-requires c κs =
     let b = c .before .before .before in
     let s = entry b in
     let a = s .args in
-    pattern-room (a .file .now) (a .path .now) (a .at) (a .side) (a .pattern) (s .pre .0) (s .pre .1 .inside) (a .c) (a .applies) (place b) (size b) (b .before .before .before .before .pattern .given .1) (a .scratch .now) (s .pre .1)
+    pattern-room (a .dialect) (a .file .now) (a .path .now) (a .at) (a .side) (a .pattern) (s .pre .0) (s .pre .1 .inside) (a .c) (a .applies) (place b) (size b) (b .before .before .before .before .pattern .given .1) (a .scratch .now) (s .pre .1)
 
 same-length : tie.Need-same-length
 same-length c = search needs
@@ -74,7 +74,7 @@ returns-3 c =
     let known = b .before .before .before .before .pattern .given .1 in
     let done = c .before .before .consider in (
       done .ensures .0
-          ∙ rule-heard (a .file .now) (a .path .now) (a .at) (a .side) (a .pattern) (s .pre .0) (s .pre .1 .inside) (a .c) (a .applies) (place b) (size b) known (not-false _ (b .before .before .if1 .left)) _ (pattern-read (a .file .now) (a .path .now) (a .at) (a .side) (a .pattern) (s .pre .0) (s .pre .1 .inside) (a .c) (a .applies) (place b) (size b) known),
+          ∙ rule-heard (a .dialect) (a .file .now) (a .path .now) (a .at) (a .side) (a .pattern) (s .pre .0) (s .pre .1 .inside) (a .c) (a .applies) (place b) (size b) known (not-false _ (b .before .before .if1 .left)) _ (pattern-read (a .dialect) (a .file .now) (a .path .now) (a .at) (a .side) (a .pattern) (s .pre .0) (s .pre .1 .inside) (a .c) (a .applies) (place b) (size b) known),
       done .ensures .1,
     )
 

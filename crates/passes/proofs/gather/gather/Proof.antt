@@ -25,11 +25,11 @@ use Rattle.passes.proofs.gather.gather.Statement.{statement}
 use Rattle.passes.proofs.gather.gather.Tie as tie
 
 abbrev Inv-loop : tie.InvT-loop
-Inv-loop classes file whole chosen name path scratch₀ audience heard₀ considered₀ at₀ soonest₀ scratch heard considered at soonest =
-    Reached file (whom (chosen .audience) name) path scratch₀ scratch whole (chosen .only) heard considered at (gathered file name (chosen .audience) path)
+Inv-loop classes dialect file whole chosen name path scratch₀ audience heard₀ considered₀ at₀ soonest₀ scratch heard considered at soonest =
+    Reached dialect file (whom (chosen .audience) name) path scratch₀ scratch whole (chosen .only) heard considered at (gathered dialect file name (chosen .audience) path)
 
 abbrev μ-loop : tie.MeasureT-loop
-μ-loop classes file whole chosen name path scratch₀ audience heard₀ considered₀ at₀ soonest₀ scratch heard considered at soonest = length file - at .place .offset
+μ-loop classes dialect file whole chosen name path scratch₀ audience heard₀ considered₀ at₀ soonest₀ scratch heard considered at soonest = length file - at .place .offset
 
 nothing-heard-requires : tie.Need-nothing-heard-requires Inv-loop μ-loop
 nothing-heard-requires c κs = tt
@@ -50,12 +50,12 @@ loop-holds c =
     let j = f .first-read .ensures in
     rw (f .before .none-considered .ensures, f .before .before .nothing-heard .ensures)
     (record {
-      left = left-first (a .file .now) (a .name .now) (a .path .now) (a .chosen) (s .pre .1) (a .whole) (f .first-read .result) j;
+      left = left-first (a .dialect) (a .file .now) (a .name .now) (a .path .now) (a .chosen) (s .pre .1) (a .whole) (f .first-read .result) j;
       same = refl;
       counted = omega (arith, j .counted, ap (λ (x : Place). x .offset) (j .place));
       compared = omega arith;
       unread = omega arith;
-      alone = alone-first (a .file .now) (a .name .now) (a .path .now) (a .chosen) (s .pre .1) (a .whole) (f .first-read .result) j;
+      alone = alone-first (a .dialect) (a .file .now) (a .name .now) (a .path .now) (a .chosen) (s .pre .1) (a .whole) (f .first-read .result) j;
     })
 
 -- the line where a turn begins
@@ -78,7 +78,7 @@ module _ (c : tie.Then1 Inv-loop μ-loop) where
   inside : at .place .offset < length file
   inside = c .if1 .taken
 
-  known : Reached file who (entry .args .path .now) (entry .args .scratch .now) (turn .loop .scratch) (entry .args .whole) (entry .args .chosen .only) (turn .loop .h) (turn .loop .c) at (gathered file (entry .args .name .now) (entry .args .chosen .audience) (entry .args .path .now))
+  known : Reached (entry .args .dialect) file who (entry .args .path .now) (entry .args .scratch .now) (turn .loop .scratch) (entry .args .whole) (entry .args .chosen .only) (turn .loop .h) (turn .loop .c) at (gathered (entry .args .dialect) file (entry .args .name .now) (entry .args .chosen .audience) (entry .args .path .now))
   known = turn .loop .inv
 
 sub-entry-of : tie.Need-sub-entry-of Inv-loop μ-loop
@@ -173,7 +173,7 @@ loop-again c =
     let k = told n in
     let l = line k in
     let off = sym (r .reads-on .ensures) ∙ not-true (r .reads-on .result) (c .before .if2 .taken) in
-    reached-skip (file l) (who l) _ _ _ _ _ _ _ (at l) _ (known l) (inside l) (over n) (passed n) _ (kind-known k) (heard r .before .match .keys2) _ (heard r .hear-other .ensures) (or-right (heard r .hear-other .result .applies) (entry l .args .whole) off) (or-left (heard r .hear-other .result .applies) (entry l .args .whole) off) _ (c .next-group .ensures)
+    reached-skip (entry l .args .dialect) (file l) (who l) _ _ _ _ _ _ _ (at l) _ (known l) (inside l) (over n) (passed n) _ (kind-known k) (heard r .before .match .keys2) _ (heard r .hear-other .ensures) (or-right (heard r .hear-other .result .applies) (entry l .args .whole) off) (or-left (heard r .hear-other .result .applies) (entry l .args .whole) off) _ (c .next-group .ensures)
 
 loop-less-2 : tie.Need-loop-less-2 Inv-loop μ-loop
 loop-less-2 c = less (next (c .before))
@@ -184,7 +184,7 @@ loop-again-2 c =
     let n = next r in
     let k = told n in
     let l = line k in
-    reached-other (file l) (who l) _ _ _ _ _ _ _ (at l) _ (known l) (inside l) (over n) (passed n) _ (kind-known k) (heard r .before .match .keys2) _ (heard r .hear-other .ensures) _ (next-known n)
+    reached-other (entry l .args .dialect) (file l) (who l) _ _ _ _ _ _ _ (at l) _ (known l) (inside l) (over n) (passed n) _ (kind-known k) (heard r .before .match .keys2) _ (heard r .hear-other .ensures) _ (next-known n)
 
 consider-rule-requires : tie.Need-consider-rule-requires Inv-loop μ-loop
 consider-rule-requires c κs =
@@ -221,7 +221,7 @@ loop-again-3 c =
     let s = entry l in
     let ruled = c .before .before .before .before .before .before .before .kind in
     let done = c .before .before .before .before .consider-rule in
-    reached-rule (file l) (who l) _ _ _ _ _ _ _ (at l) _ (known l) (inside l) (over n) (passed n) _ (kind-known k) (ruled .given .0 .0) (ruled .given .0 .1 .0) (ruled .given .1) (s .pre .3) _ (c .before .is-unread-rule .ensures) _ (c .hear-rule .ensures) _ (done .ensures .0) _ (done .ensures .1) _ (next-known n)
+    reached-rule (entry l .args .dialect) (file l) (who l) _ _ _ _ _ _ _ (at l) _ (known l) (inside l) (over n) (passed n) _ (kind-known k) (ruled .given .0 .0) (ruled .given .0 .1 .0) (ruled .given .1) (s .pre .3) _ (c .before .is-unread-rule .ensures) _ (c .hear-rule .ensures) _ (done .ensures .0) _ (done .ensures .1) _ (next-known n)
 
 tell-requires : tie.Need-tell-requires Inv-loop μ-loop
 tell-requires c κs = tt
@@ -234,7 +234,7 @@ returns c =
     let e = c .before in
     let t = e .before .before .loop in
     let a = e .before .before .before .before .before .before .before .before .before .before .before .args in
-    let all = left-none (a .file .now) (whom (a .chosen .audience) (a .name .now)) (a .path .now) (a .whole) (t .h) (t .c) (t .at) _ (t .inv .left) (e .if1 .left) in
+    let all = left-none (a .dialect) (a .file .now) (whom (a .chosen .audience) (a .name .now)) (a .path .now) (a .whole) (t .h) (t .c) (t .at) _ (t .inv .left) (e .if1 .left) in
     (c .tell .ensures ∙ all, t .inv .same)
 
 pub gather-spec : {M : Type 1} → statement M
