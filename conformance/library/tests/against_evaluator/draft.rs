@@ -36,7 +36,7 @@ fn check_inside(case: &DecideCase, index: usize, expected: &Decision) {
     assert_eq!(answer, *expected, "inside, {before}: {}", message());
 }
 
-/// "half of them at least matched by some applying rule", and all sorts of
+/// At least half of them are matched by a rule that applies, and all sorts of
 /// answers and refusals of a short file are well represented.
 #[test]
 fn many_generated_questions() {
