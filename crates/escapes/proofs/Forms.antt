@@ -7,25 +7,19 @@ use mathlib.Core.List.{List, [], _∷_}
 use native.Mathlib.Omega.{arith}
 use lib.Dec.{ltb}
 use lib.ListN.{length, drop, getD, length-drop}
-use borrow.Author.Tests.{ne-eqb, ltb-true, ltb-false, not-true, not-false}
+use borrow.Author.Tests.{ltb-true, ltb-false, not-true, not-false}
 use Rattle.lists.proofs.Bools.{split}
 use Rattle.lists.proofs.Scans.{drop-one}
 use Rattle.protocol.specs.Octets.{is, unreserved, hex}
 use Rattle.protocol.specs.Normal.{encoded, meant, escape, isEscape, escapeAt, isEncoded, plain, replacement}
+use Rattle.protocol.proofs.Sizes.{no-percent}
 use Rattle.protocol.proofs.Plain.{escape-hex}
 use Rattle.escapes.specs.declared.Replacement.{Replacement}
 use Rattle.escapes.specs.declared.Measure.{Measure}
 use Rattle.escapes.specs.Escapes.{kept, octetsOf, Encoded, Escaped, ChangedAt, ReplacementAt, MeasureAt}
 use Rattle.escapes.proofs.Sorts.{escape-encoded}
 
--- only "%" begins an escape
-pub no-percent : (x : ℕ) (l : List ℕ) → (x ≡ code "%" → ⊥) → isEscape x l ≡ false
-unfolding isEscape
-no-percent x [] h = refl
-no-percent x (d ∷ []) h = refl
-no-percent x (d ∷ e ∷ l) h = rw (ne-eqb x (code "%") h)
-
--- and two octets have to follow it
+-- two octets have to follow the "%" of an escape
 pub no-digits : (x : ℕ) (l : List ℕ) → length l < 2 → isEscape x l ≡ false
 unfolding isEscape
 no-digits x [] h = refl

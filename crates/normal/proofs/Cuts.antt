@@ -13,9 +13,9 @@ use Rattle.lists.proofs.Parts.{upTo-stop, upTo-on}
 use Rattle.lists.proofs.Fronts.{upTo-clear}
 use Rattle.protocol.specs.Normal.{isEscape, escapeAt, special, replacement, normal}
 use Rattle.protocol.specs.Pattern.{isStar, firstRun, laterRuns}
+use Rattle.protocol.proofs.Sizes.{no-percent}
 use Rattle.protocol.proofs.Plain.{Clear, hex-not-star, escape-hex, replacement-clear}
 use Rattle.escapes.specs.Escapes.{taken}
-use Rattle.escapes.proofs.Forms.{no-percent}
 use Rattle.normal.proofs.Steps.{normal-cons, normal-kept, by-replacements}
 
 -- a star stands for itself

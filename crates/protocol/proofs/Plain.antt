@@ -8,7 +8,7 @@ use mathlib.Core.List.{List, [], _∷_, _++_}
 use native.Mathlib.Omega.{arith}
 use lib.Dec.{leb, ltb}
 use lib.ListN.{length, getD}
-use borrow.Author.Tests.{leb-true, eqb-true, ne-eqb, not-true}
+use borrow.Author.Tests.{leb-true, eqb-true, eqb-false, ne-eqb, not-true}
 use Rattle.lists.specs.Choice.{if_then_else_}
 use Rattle.lists.specs.Lists.{all, upTo}
 use Rattle.lists.proofs.Bools.{split, and-left, and-right}
@@ -18,7 +18,7 @@ use Rattle.protocol.specs.Normal.{encoded, meant, escape, isEscape, esca
 use Rattle.protocol.specs.Pattern.{plainShape, weight, isStar, firstRun, laterRuns, runs}
 use Rattle.protocol.specs.Matching.{filled}
 use Rattle.protocol.specs.Walk.{first, later, walkRuns, walk}
-use Rattle.protocol.proofs.Sizes.{slash-plain}
+use Rattle.protocol.proofs.Sizes.{no-percent}
 use Rattle.protocol.proofs.Found.{walk-finds}
 
 -- what passes a test that "*" doesn't pass is no star
@@ -146,19 +146,12 @@ module _ (raw : List ℕ) where
         λ (rest, e). back (record { fillings = []; rest = rest; gives = rw (plain-whole .filled []) e; whole = λ z. absurd (false≢true z) }),
       )
 
--- "*" begins no escape
-star-alone : (l : List ℕ) → isEscape (code "*") l ≡ false
-unfolding isEscape
-star-alone [] = refl
-star-alone (d ∷ []) = refl
-star-alone (d ∷ e ∷ l) = refl
-
 -- A pattern that begins with a star is "%2A" in front, and a path that isn't refused begins with "/": it matches none.
 pub star-unmatched : (l path rest : List ℕ) → begins "/" path ≡ true → normalPath (code "*" ∷ l) ++ rest ≡ normalPath path → ⊥
 unfolding begins normalPath normal replacement plain encoded special
 star-unmatched l [] rest h e = absurd (false≢true h)
 star-unmatched l (c ∷ path) rest h e =
     let front : List ℕ → ℕ = λ m. getD m 0 0 in
-    let star : front (normalPath (code "*" ∷ l) ++ rest) ≡ 37 = rw (star-alone l) refl in
-    let slash : front (normalPath (c ∷ path)) ≡ 47 = rw (eqb-true c (code "/") h, slash-plain path) refl in
+    let star : front (normalPath (code "*" ∷ l) ++ rest) ≡ 37 = rw (no-percent (code "*") l (eqb-false (code "*") (code "%") refl)) refl in
+    let slash : front (normalPath (c ∷ path)) ≡ 47 = rw (eqb-true c (code "/") h, no-percent (code "/") path (eqb-false (code "/") (code "%") refl)) refl in
     omega (arith, star, slash, ap front e)

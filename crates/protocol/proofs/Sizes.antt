@@ -6,7 +6,7 @@ use mathlib.Core.Bool.{Bool, true, false, false≢true}
 use mathlib.Core.List.{List, [], _∷_, dropLast}
 use native.Mathlib.Omega.{arith}
 use lib.ListN.{length, length-append}
-use borrow.Author.Tests.{eqb-true}
+use borrow.Author.Tests.{eqb-true, eqb-false, ne-eqb}
 use Rattle.lists.specs.Choice.{if_then_else_}
 use Rattle.lists.proofs.Bools.{split}
 use Rattle.protocol.specs.declared.Dialect.{Dialect}
@@ -39,17 +39,18 @@ normal-size stars zero (c ∷ l) =
     omega (arith, length-append (replacement stars c l) (normal stars n l), replacement-size stars c l, normal-size stars n l)
 normal-size stars (suc n) (c ∷ l) = omega (arith, normal-size stars n l)
 
-pub slash-plain : (l : List ℕ) → isEscape (code "/") l ≡ false
+-- only "%" begins an escape
+pub no-percent : (x : ℕ) (l : List ℕ) → (x ≡ code "%" → ⊥) → isEscape x l ≡ false
 unfolding isEscape
-slash-plain [] = refl
-slash-plain (d ∷ []) = refl
-slash-plain (d ∷ e ∷ l) = refl
+no-percent x [] h = refl
+no-percent x (d ∷ []) h = refl
+no-percent x (d ∷ e ∷ l) h = rw (ne-eqb x (code "%") h)
 
 -- A path that begins with "/" has at most three times its octets, less two: the "/" is one octet.
 pub path-size : (path : List ℕ) → begins "/" path ≡ true → length (normalPath path) + 2 ≤ 3 * length path
 unfolding begins normalPath normal replacement plain special
 path-size [] h = absurd (false≢true h)
-path-size (c ∷ l) h = rw (eqb-true c (code "/") h, slash-plain l) (omega (arith, normal-size false 0 l))
+path-size (c ∷ l) h = rw (eqb-true c (code "/") h, no-percent (code "/") l (eqb-false (code "/") (code "%") refl)) (omega (arith, normal-size false 0 l))
 
 -- "a 2,048-octet path (at most 6,142 normalised)"
 pub path-limit : (path : List ℕ) → begins "/" path ≡ true → length path ≤ 2_048 → length (normalPath path) ≤ 6_142

@@ -7,6 +7,7 @@ use generator::{DecideCase, SEED};
 
 use crate::deciding::{check_decide_in, numbers_in, question_shown};
 use crate::dense::sort;
+use crate::small_files::check_files_of;
 use crate::texts::{lengthened, slash_and, MOST_FILE, MOST_NORMALISED, MOST_PATH};
 
 /// Generated questions for this dialect, and of each of three other sorts.
@@ -136,28 +137,10 @@ const LINES: [&str; 9] = [
     "allow:",
 ];
 
-/// Every file of up to five of these lines, for two crawlers: all orders of
-/// rules, and all ways in which groups begin, go on and end.
+/// Rules that the dialects read otherwise, in all orders.
 #[test]
 fn every_file_of_few_lines() {
-    let places: Vec<u8> = (0..LINES.len() as u8).collect();
-    let mut seen = [0; 3];
-    for row in generator::strings(&places, 5) {
-        let lines: Vec<&str> = row.iter().map(|at| LINES[usize::from(*at)]).collect();
-        let file = lines.join("\n");
-        for name in ["a", "b"] {
-            let answer = check_decide_in(DRAFT1996, file.as_bytes(), name.as_bytes(), b"/x$");
-            seen[match (answer.line, answer.disallow) {
-                (0, _) => 0,
-                (_, false) => 1,
-                (_, true) => 2,
-            }] += 1;
-        }
-    }
-    println!("by no rule, allow and disallow: {seen:?}");
-    // 9^0 + .. + 9^5 files
-    assert_eq!(seen.iter().sum::<usize>(), 2 * 66_430);
-    assert!(seen.iter().all(|count| *count > 10_000), "{seen:?}");
+    check_files_of(DRAFT1996, LINES, b"/x$");
 }
 
 /// Library and evaluator give disallow, line, length and compared by one rule.

@@ -1,6 +1,8 @@
 //! Every small file.
 
-use crate::deciding::check_decide;
+use evaluator::RFC9309;
+
+use crate::deciding::check_decide_in;
 
 const LINES: [&str; 9] = [
     "user-agent: a",
@@ -14,20 +16,19 @@ const LINES: [&str; 9] = [
     "sitemap: /",
 ];
 
-/// Every row of up to this many of these lines.
+/// Every row of up to this many of nine lines.
 const MOST: usize = 5;
 
-/// Every file of these lines for two crawlers: all ways in which groups begin,
-/// go on and end.
-#[test]
-fn every_file_of_few_lines() {
-    let places: Vec<u8> = (0..LINES.len() as u8).collect();
+/// Every file of these lines for two crawlers: all orders of rules, and all ways
+/// in which groups begin, go on and end.
+pub(crate) fn check_files_of(dialect: usize, lines: [&str; 9], path: &[u8]) {
+    let places: Vec<u8> = (0..lines.len() as u8).collect();
     let mut seen = [0; 3];
     for row in generator::strings(&places, MOST) {
-        let lines: Vec<&str> = row.iter().map(|at| LINES[usize::from(*at)]).collect();
-        let file = lines.join("\n");
+        let rows: Vec<&str> = row.iter().map(|at| lines[usize::from(*at)]).collect();
+        let file = rows.join("\n");
         for name in ["a", "b"] {
-            let answer = check_decide(file.as_bytes(), name.as_bytes(), b"/x");
+            let answer = check_decide_in(dialect, file.as_bytes(), name.as_bytes(), path);
             seen[match (answer.line, answer.disallow) {
                 (0, _) => 0,
                 (_, false) => 1,
@@ -39,4 +40,9 @@ fn every_file_of_few_lines() {
     // 9^0 + .. + 9^5 files
     assert_eq!(seen.iter().sum::<usize>(), 2 * 66_430);
     assert!(seen.iter().all(|count| *count > 10_000), "{seen:?}");
+}
+
+#[test]
+fn every_file_of_few_lines() {
+    check_files_of(RFC9309, LINES, b"/x");
 }

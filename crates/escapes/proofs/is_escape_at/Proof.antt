@@ -8,7 +8,8 @@ use borrow.Author.Tests.{eq-eqb, not-true, not-false}
 use borrow.Author.Needs.{needs}
 use Rattle.protocol.specs.Octets.{hex}
 use Rattle.protocol.specs.Normal.{isEscape}
-use Rattle.escapes.proofs.Forms.{no-percent, no-digits, escape-test}
+use Rattle.protocol.proofs.Sizes.{no-percent}
+use Rattle.escapes.proofs.Forms.{no-digits, escape-test}
 use Rattle.escapes.proofs.is_escape_at.Statement.{statement}
 use Rattle.escapes.proofs.is_escape_at.Tie as tie
 
