@@ -1,3 +1,4 @@
+pub mod Appends
 pub mod Bools
 pub mod Cuts
 pub mod Fronts

@@ -129,7 +129,7 @@ module _ (file : List ℕ) (es : List Entry) (crawler : List ℕ) where
   abbrev pub addressee : List ℕ
   addressee = if someGroupNames file es crawler then crawler else everyone
 
-  applying-addressee : applying file es crawler ≡ rulesIn (groupNames file es addressee) es
+  pub applying-addressee : applying file es crawler ≡ rulesIn (groupNames file es addressee) es
   applying-addressee = split (someGroupNames file es crawler) (λ e. rw e (applying-named e)) (λ e. rw e (applying-everyone e))
 
   -- A rule applies exactly when it is the rule of a rule line whose group names the crawler if any group does, otherwise "*".

@@ -2,7 +2,7 @@
 use Rattle.lists.specs.Lists.{all, any, kept, upTo, from, through, total, numbersFrom, same}
 use Rattle.protocol.specs.Octets.{upper, lower, digit, token, unreserved, hex, blank, lineEnd, lowerCase, upperCase, hexValue, hexDigit}
 use Rattle.protocol.specs.Text.{octets, begins, ends, sameIgnoringCase, lead, unlessAtEnd, trimEnd, trim, octetsAt}
-use Rattle.protocol.specs.Lines.{endingLength, lineLength, linesFrom, hasLeadingMark, linesOf}
+use Rattle.protocol.specs.Lines.{endingLength, lineLength, linesFrom, hasLeadingMark, linesOf, ended}
 use Rattle.protocol.specs.Readable.{nameFront, agentName, readableAgent, names, characterForms, dueAfter, wellFormed, patternStart, readablePattern}
 use Rattle.protocol.specs.Kinds.{agentAt, patternAt, fieldKind, recordKind, restKind, uncommented, kindOf}
 use Rattle.protocol.specs.Entries.{roleOf, groupAt, ruledAfter, placeInFile, entryOf, entriesFrom, entries}
@@ -21,7 +21,7 @@ unfolding all any kept upTo from through total numbersFrom same upper lower digi
 texts = tt
 
 unfoldable pub lines : Unit {0}
-unfolding endingLength lineLength linesFrom hasLeadingMark linesOf nameFront agentName readableAgent names characterForms dueAfter wellFormed patternStart readablePattern agentAt patternAt fieldKind recordKind restKind uncommented kindOf
+unfolding endingLength lineLength linesFrom hasLeadingMark linesOf ended nameFront agentName readableAgent names characterForms dueAfter wellFormed patternStart readablePattern agentAt patternAt fieldKind recordKind restKind uncommented kindOf
 lines = tt
 
 unfoldable pub groups : Unit {0}

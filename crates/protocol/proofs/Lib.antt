@@ -1,8 +1,11 @@
 pub mod Computing
 pub mod Examples
 pub mod FrontToBack
+pub mod Appended
 pub mod Values
 pub mod Inside
+pub mod Said
+pub mod Groups
 pub mod Sizes
 pub mod Unread
 pub mod Limits

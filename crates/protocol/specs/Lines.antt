@@ -1,15 +1,15 @@
 -- "From octets to lines". Assumes nothing.
 use Prim.Native.Nat.{ℕ, zero, suc, _+_, _-_}
-use mathlib.Core.Bool.{Bool, false, _&&_}
+use mathlib.Core.Bool.{Bool, false, _&&_, _||_}
 use mathlib.Core.List.{List, [], _∷_}
 use lib.Dec.{eqb}
 use lib.ListN.{length}
 use Rattle.lists.specs.Choice.{if_then_else_}
 use Rattle.protocol.specs.declared.LineNumber.{LineNumber}
 use Rattle.protocol.specs.declared.Place.{Place}
-use Rattle.lists.specs.Lists.{upTo, from}
+use Rattle.lists.specs.Lists.{empty, upTo, from}
 use Rattle.protocol.specs.Octets.{is, lineEnd}
-use Rattle.protocol.specs.Text.{begins}
+use Rattle.protocol.specs.Text.{begins, ends}
 
 -- "Line numbers count from 1 and octet places from 0; no routine may take one for the other"
 abbrev pub lineNumber : ℕ → LineNumber
@@ -69,3 +69,7 @@ skipped file = if hasLeadingMark file then 3 else 0
 -- all lines of a file; the octets that are skipped are in none of them
 unfoldable pub linesOf : List ℕ → List Line
 linesOf file = linesFrom (lineNumber 1) (placeAt 0) (skipped file) file
+
+-- M-108, "each line ended": a text is empty or ends in a line ending
+unfoldable pub ended : List ℕ → Bool
+ended l = empty l || ends "\r" l || ends "\n" l
