@@ -87,3 +87,11 @@ told() { sed -n '/^## See it work/,/^## /s/^    //p' README.md; }
 printed=$(sh -c "$(told | head -n 1)" | tail -n 1)
 [ -n "$printed" ] && [ "$printed" = "$(told | tail -n 1)" ] ||
     fail "README.md, 'See it work': its command printed '$printed'"
+
+# docs/ORDER.md, 'An example': its two commands, which have blank lines in them, print what stands there
+for part in Before After; do
+    told() { sed -n "/^### $part/,/^##/{s/^    //p;/^\$/p}" docs/ORDER.md; }
+    printed=$(sh -c "$(told | sed -n '/^bin/,/^END/p')")
+    [ -n "$printed" ] && [ "$printed" = "$(told | sed '/^$/d' | tail -n 1)" ] ||
+        fail "docs/ORDER.md, 'An example': the command under '$part' printed '$printed'"
+done

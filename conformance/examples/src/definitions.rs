@@ -1,15 +1,22 @@
 //! The rows of Examples.antt, OwnExamples.antt and DraftExamples.antt in
-//! crates/protocol/specs, for which the definitions are proved to compute the
-//! given answers.
+//! crates/protocol/specs and of Examples.antt in crates/exchange/specs, for which
+//! the definitions are proved to compute the given answers.
 
 use evaluator::{Decision, LineKind, Matched, DRAFT1996, RFC9309};
 
 use crate::rows::{self, Row, Scanner};
 
-const FILES: [&str; 3] = ["Examples.antt", "OwnExamples.antt", "DraftExamples.antt"];
+/// As crates/ has them.
+const FILES: [&str; 4] = [
+    "protocol/specs/Examples.antt",
+    "protocol/specs/OwnExamples.antt",
+    "protocol/specs/DraftExamples.antt",
+    "exchange/specs/Examples.antt",
+];
 
-/// The sorts of rows that are questions, and how many there are of each.
-pub const SORTS: [(&str, usize); 11] = [
+/// The sorts of rows that are questions, and how many questions there are of each:
+/// two to an `exchangeRow`, one to any other.
+pub const SORTS: [(&str, usize); 12] = [
     ("row", 87),
     ("rowIn", 15),
     ("rowBy", 19),
@@ -21,9 +28,11 @@ pub const SORTS: [(&str, usize); 11] = [
     ("lineRow", 60),
     ("matchRow", 26),
     ("normalRow", 12),
+    // those that may be exchanged, and those that may not
+    ("exchangeRow", 2 * (2 + 14)),
 ];
 
-/// A row of a table, with the answer that is written there.
+/// A question of a table's row, with the answer that is written there.
 #[derive(Debug, Clone, PartialEq, Eq)]
 pub struct DefinitionRow {
     /// File, line and text of the row, for a message.
@@ -94,57 +103,85 @@ impl Told {
     }
 }
 
-/// All rows of these files that are questions, in order. What can't be read is
-/// a panic.
+/// The questions of all rows of these files, in order. What can't be read is a
+/// panic.
 pub fn definition_rows() -> Vec<DefinitionRow> {
-    let specs = concat!(env!("CARGO_MANIFEST_DIR"), "/../../crates/protocol/specs");
-    let sorts = SORTS.map(|(sort, _)| sort);
+    let crates = concat!(env!("CARGO_MANIFEST_DIR"), "/../../crates");
     let read = |file| {
-        let text = std::fs::read_to_string(format!("{specs}/{file}"));
+        let text = std::fs::read_to_string(format!("{crates}/{file}"));
         let text = text.unwrap_or_else(|fault| panic!("{file}: {fault}"));
-        rows::read(file, &text, &sorts)
+        table_rows(file, &text)
     };
-    FILES.into_iter().flat_map(read).map(scanned).collect()
+    FILES.into_iter().flat_map(read).collect()
 }
 
-fn scanned(row: Row) -> DefinitionRow {
+/// The same of one file's text.
+pub fn table_rows(file: &'static str, text: &str) -> Vec<DefinitionRow> {
+    let sorts = SORTS.map(|(sort, _)| sort);
+    let rows = rows::read(file, text, &sorts).into_iter();
+    rows.flat_map(scanned).collect()
+}
+
+fn scanned(row: Row) -> Vec<DefinitionRow> {
     let mut rest = Scanner::new(&row.text);
     let sort = rest.word();
     let asked = match sort.as_str() {
-        "row" => {
-            let file = rest.text_of_lines();
-            decide(&mut rest, RFC9309, file)
-        }
-        "rowIn" => {
-            let file = rest.octets();
-            decide(&mut rest, RFC9309, file)
-        }
-        "rowBy" => {
-            let (dialect, file) = (rest.number(), rest.text_of_lines());
-            decide(&mut rest, dialect, file)
-        }
-        "draftRow" => {
-            let file = rest.text_of_lines();
-            decide(&mut rest, DRAFT1996, file)
-        }
-        "pathRow" => path_matches(&mut rest),
-        "sizes" => sizes(&mut rest),
-        "run" => run(&mut rest),
-        "located" => located(&mut rest),
-        "lineRow" => line(&mut rest),
-        "matchRow" => match_pattern(&mut rest),
-        "normalRow" => normalise(&mut rest),
-        other => panic!("an unknown sort of row: {other}"),
+        "exchangeRow" => exchange(&mut rest).to_vec(),
+        _ => vec![question(&sort, &mut rest)],
     };
     rest.end();
     let place = format!("{}:{}: {}", row.file, row.line, row.text);
-    DefinitionRow { place, sort, asked }
+    let with_place = |asked| DefinitionRow {
+        place: place.clone(),
+        sort: sort.clone(),
+        asked,
+    };
+    asked.into_iter().map(with_place).collect()
+}
+
+/// Of a row that has one.
+fn question(sort: &str, rest: &mut Scanner) -> Asked {
+    match sort {
+        "row" => {
+            let file = rest.text_of_lines();
+            decide(rest, RFC9309, file)
+        }
+        "rowIn" => {
+            let file = rest.octets();
+            decide(rest, RFC9309, file)
+        }
+        "rowBy" => {
+            let (dialect, file) = (rest.number(), rest.text_of_lines());
+            decide(rest, dialect, file)
+        }
+        "draftRow" => {
+            let file = rest.text_of_lines();
+            decide(rest, DRAFT1996, file)
+        }
+        "pathRow" => path_matches(rest),
+        "sizes" => sizes(rest),
+        "run" => run(rest),
+        "located" => located(rest),
+        "lineRow" => line(rest),
+        "matchRow" => match_pattern(rest),
+        "normalRow" => normalise(rest),
+        other => panic!("an unknown sort of row: {other}"),
+    }
 }
 
 /// A row of document 01's table or of ours: name, path, answer.
 fn decide(row: &mut Scanner, dialect: usize, file: Vec<u8>) -> Asked {
-    let (name, path) = (row.text(), row.text());
-    let told = match row.answer() {
+    Asked::Decide {
+        dialect,
+        file,
+        name: row.text(),
+        path: row.text(),
+        told: answer(row),
+    }
+}
+
+fn answer(row: &mut Scanner) -> Told {
+    match row.answer() {
         (word, numbers) if word == "refused" => {
             let [refusal] = numbers[..] else {
                 panic!("refused wants one number, not {numbers:?}")
@@ -157,14 +194,26 @@ fn decide(row: &mut Scanner, dialect: usize, file: Vec<u8>) -> Asked {
             };
             Told::Answer([0, disallow(&word), line, unread, compared])
         }
-    };
-    Asked::Decide {
-        dialect,
-        file,
-        name,
-        path,
-        told,
     }
+}
+
+/// Mark, front, one, two, rest; the numbers of the tests that fail, which aren't
+/// asked; name, path; the answers about the file, and with one and two exchanged.
+fn exchange(row: &mut Scanner) -> [Asked; 2] {
+    let mut parts = [(); 5].map(|()| row.marked_text());
+    let file = parts.concat();
+    parts.swap(2, 3);
+    let files = [file, parts.concat()];
+    row.numbers();
+    row.numbers();
+    let (name, path) = (row.text(), row.text());
+    files.map(|file| Asked::Decide {
+        dialect: RFC9309,
+        file,
+        name: name.clone(),
+        path: path.clone(),
+        told: answer(row),
+    })
 }
 
 /// A row of the draft's table: record path, URL path, whether a disallow line of

@@ -5,7 +5,7 @@
 //! answers. Of the evaluator only the types of its answers are used here.
 //!
 //! `walk_rows` gives walks of our own, worked out by hand; `definition_rows`
-//! gives the rows of the definitions' tables.
+//! gives the questions of the rows of the definitions' tables.
 
 mod answer;
 mod definitions;
@@ -17,7 +17,7 @@ mod walks;
 
 use std::fmt;
 
-pub use definitions::{definition_rows, Asked, DefinitionRow, Told, SORTS};
+pub use definitions::{definition_rows, table_rows, Asked, DefinitionRow, Told, SORTS};
 pub use evaluator::{Decision, LineKind, Matched};
 pub use reader::read;
 pub use walks::{walk_rows, WalkRow};

@@ -15,6 +15,8 @@ impl Row {
     }
 }
 
+const LEADING_MARK: [u8; 3] = [0xEF, 0xBB, 0xBF];
+
 /// Texts that rows call by their names.
 const NAMED: [&str; 2] = ["simpleExample", "draftRecord"];
 
@@ -134,6 +136,15 @@ impl<'a> Scanner<'a> {
         self.text().into_iter().map(line_feed).collect()
     }
 
+    /// The same in which "^" is a leading mark.
+    pub fn marked_text(&mut self) -> Vec<u8> {
+        let marked = |octet| match octet {
+            b'^' => LEADING_MARK.to_vec(),
+            other => vec![other],
+        };
+        self.text_of_lines().into_iter().flat_map(marked).collect()
+    }
+
     /// Octets: `[]`, `leadingMark`, `octets "…"`, `lines "…"`, or some of these and
     /// lists of numerals in parentheses, joined by `++`.
     pub fn octets(&mut self) -> Vec<u8> {
@@ -144,7 +155,7 @@ impl<'a> Scanner<'a> {
         }
         match self.word().as_str() {
             "[]" => Vec::new(),
-            "leadingMark" => vec![0xEF, 0xBB, 0xBF],
+            "leadingMark" => LEADING_MARK.to_vec(),
             "octets" => self.text(),
             "lines" => self.text_of_lines(),
             other => panic!("octets expected, not {other}"),
@@ -153,7 +164,8 @@ impl<'a> Scanner<'a> {
 
     fn joined(&mut self) -> Vec<u8> {
         if self.left.starts_with(|c: char| c.is_ascii_digit()) {
-            return self.list();
+            let octet = |number| u8::try_from(number).expect("an octet");
+            return self.list().into_iter().map(octet).collect();
         }
         let mut octets = self.octets();
         while self.skip("++") {
@@ -163,13 +175,24 @@ impl<'a> Scanner<'a> {
     }
 
     /// `0x7F ∷ 0xC2 ∷ []`
-    fn list(&mut self) -> Vec<u8> {
-        let mut octets = Vec::new();
+    fn list(&mut self) -> Vec<usize> {
+        let mut numbers = Vec::new();
         while !self.skip("[]") {
-            octets.push(u8::try_from(self.number()).expect("an octet"));
+            numbers.push(self.number());
             self.expect("∷");
         }
-        octets
+        numbers
+    }
+
+    /// `[]`, or `(0 ∷ 1 ∷ [])`.
+    pub fn numbers(&mut self) -> Vec<usize> {
+        if self.skip("[]") {
+            return Vec::new();
+        }
+        self.expect("(");
+        let numbers = self.list();
+        self.expect(")");
+        numbers
     }
 
     /// `(allow 0 0 0)`, `(disallow 2 0 1)` or `(refused 3)`.

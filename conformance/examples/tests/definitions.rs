@@ -50,7 +50,7 @@ fn no_row_is_passed_over() {
     let rows = definition_rows();
     for (sort, count) in SORTS {
         let found = rows.iter().filter(|row| row.sort == sort).count();
-        assert_eq!(found, count, "rows of the sort {sort}");
+        assert_eq!(found, count, "questions of the sort {sort}");
     }
     let all: usize = SORTS.iter().map(|(_, count)| count).sum();
     assert_eq!(rows.len(), all);

@@ -1,8 +1,14 @@
-//! A data file with a fault is an error that names the file and the line.
+//! A data file with a fault is an error that names the file and the line. A row of
+//! the definitions' tables with a fault is a panic.
 
-use examples::{read, Question};
+use std::panic::catch_unwind;
+
+use evaluator::RFC9309;
+use examples::{read, table_rows, Asked, Question, Told};
 
 const RULES: &str = "at 001, here\nrules\n    user-agent: a\n    disallow: /x\nend\n";
+
+const EXCHANGE: &str = r#"exchangeRow "^" "|" "a:|" "b:\r" "c" [] (0 ∷ 1 ∷ []) "n" "/^" (allow 0 0 0) (disallow 2 3 4)"#;
 
 #[track_caller]
 fn fault(text: &str, line: usize, reason: &str) {
@@ -13,6 +19,16 @@ fn fault(text: &str, line: usize, reason: &str) {
 #[track_caller]
 fn decide_fault(row: &str, reason: &str) {
     fault(&format!("{RULES}{row}\n"), 6, reason);
+}
+
+/// The row of an exchange with the one text in the other's place.
+#[track_caller]
+fn exchange_fault(good: &str, bad: &str, reason: &str) {
+    assert!(EXCHANGE.contains(good), "{good}");
+    let text = format!("    {}\n", EXCHANGE.replacen(good, bad, 1));
+    let fault = catch_unwind(|| table_rows("bad.antt", &text)).expect_err("a fault");
+    let found = fault.downcast::<String>().expect("a message");
+    assert!(found.contains(reason), "{found}");
 }
 
 #[test]
@@ -142,4 +158,42 @@ fn faults_of_decisions() {
         "decide | 001-x-01 | a | /x | disallow | disallow two 0 2 | /x",
         "no number: two",
     );
+}
+
+#[test]
+fn a_row_of_an_exchange_asks_twice() {
+    let rows = table_rows("good.antt", &format!("    ∷ {EXCHANGE}\n"));
+    let place = format!("good.antt:1: {EXCHANGE}");
+    assert!(rows.iter().all(|row| row.place == place));
+    let decide = |file: &[u8], told| Asked::Decide {
+        dialect: RFC9309,
+        file: file.to_vec(),
+        name: b"n".to_vec(),
+        path: b"/^".to_vec(),
+        told: Told::Answer(told),
+    };
+    let asked: Vec<Asked> = rows.into_iter().map(|row| row.asked).collect();
+    let before = decide(b"\xEF\xBB\xBF\na:\nb:\rc", [0, 0, 0, 0, 0]);
+    let after = decide(b"\xEF\xBB\xBF\nb:\ra:\nc", [0, 1, 2, 3, 4]);
+    assert_eq!(asked, [before, after]);
+}
+
+#[test]
+fn faults_of_exchanges() {
+    // a part, a list, the path or an answer is missing
+    exchange_fault(r#""c" "#, "", r#"" expected at: [] (0 ∷ 1 ∷ [])"#);
+    exchange_fault("[] ", "", r#"( expected at: "n" "/^" (allow"#);
+    exchange_fault(r#""/^" "#, "", r#"" expected at: (allow 0 0 0)"#);
+    exchange_fault(" (disallow 2 3 4)", "", "( expected at: ");
+    // one answer too many
+    exchange_fault("4)", "4) (allow 0 0 0)", "the row should end here");
+    // what a list or an answer holds
+    exchange_fault("(0 ∷ 1 ∷ [])", "(0 ∷ 1)", "∷ expected at: )");
+    exchange_fault("(0 ∷", "(x ∷", "a number expected, not x");
+    exchange_fault(
+        "allow 0 0 0",
+        "allow 0 0",
+        "allow wants three numbers, not [0, 0]",
+    );
+    exchange_fault("disallow", "deny", "neither allow nor disallow: deny");
 }

@@ -118,7 +118,7 @@ pub(crate) fn between(random: &mut Random) -> Option<Vec<u8>> {
 
 /// A pattern made from the path, damaged or as heavy as one before; now and
 /// then an empty one or one that is unreadable.
-fn rule_value(random: &mut Random, path: &[u8], before: &[Vec<u8>]) -> Vec<u8> {
+pub(crate) fn rule_value(random: &mut Random, path: &[u8], before: &[Vec<u8>]) -> Vec<u8> {
     let mut pattern = match (random.below(12), before.len()) {
         (0, _) => return Vec::new(),
         (1, _) => {

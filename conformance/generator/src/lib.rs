@@ -9,9 +9,10 @@
 //!   `i` depends on the seed and on `i` only; the same seed gives the same
 //!   cases everywhere.
 //!
-//! A case holds a question and no answer. `agent_values` gives generated values
-//! of agent lines, `strings`, `after_slash` and `after_slash_or_star` all texts
-//! up to a length, and `normal_length` the length of a normalised path.
+//! A case holds a question and no answer. `exchange_cases` gives files in parts,
+//! with some questions each, `agent_values` generated values of agent lines,
+//! `strings`, `after_slash` and `after_slash_or_star` all texts up to a length,
+//! and `normal_length` the length of a normalised path.
 
 mod agents;
 mod dense;
@@ -21,6 +22,8 @@ mod derived_files;
 mod draft;
 mod draft_edges;
 mod edges;
+mod exchange;
+mod exchange_parts;
 mod files;
 mod patterns;
 mod random;
@@ -29,6 +32,7 @@ mod text;
 
 pub use draft_edges::draft_decide_edges;
 pub use edges::{decide_edges, line_edges, match_edges, normalise_edges, program_edges};
+pub use exchange::{ExchangeCase, Parts, Question};
 pub use patterns::normal_length;
 pub use small::{after_slash, after_slash_or_star, strings};
 
@@ -37,6 +41,7 @@ use dense::dense_decide_case;
 use derived::derived_case;
 use derived_files::{derived_decide_case, long_decide_case};
 use draft::draft_decide_case;
+use exchange::exchange_case;
 use files::Setting;
 use patterns::{path, pattern, theme};
 use random::Random;
@@ -90,6 +95,7 @@ const LONG_DECIDE: u64 = 8;
 const AGENT: u64 = 9;
 const DENSE_DECIDE: u64 = 10;
 const DRAFT_DECIDE: u64 = 11;
+const EXCHANGE: u64 = 12;
 
 /// Draws `count` cases of one sort.
 fn drawn<T>(
@@ -129,6 +135,13 @@ pub fn dense_decide_cases(seed: u64, count: usize) -> impl Iterator<Item = Decid
 /// that apply. More than half are decided by a rule.
 pub fn draft_decide_cases(seed: u64, count: usize) -> impl Iterator<Item = DecideCase> {
     drawn(seed, DRAFT_DECIDE, count, draft_decide_case)
+}
+
+/// Generated files with two neighbouring parts that may be exchanged (M-108), and
+/// three questions about each. About half of the answers are by a rule of these
+/// parts.
+pub fn exchange_cases(seed: u64, count: usize) -> impl Iterator<Item = ExchangeCase> {
+    drawn(seed, EXCHANGE, count, exchange_case)
 }
 
 /// Generated questions for matching.

@@ -50,6 +50,9 @@ fn the_generator_is_deterministic() {
     let dense: Vec<_> = generator::dense_decide_cases(SEED, 50).collect();
     let more: Vec<_> = generator::dense_decide_cases(SEED, 100).collect();
     assert_eq!(dense, more[..50]);
+    let exchanges: Vec<_> = generator::exchange_cases(SEED, 50).collect();
+    let more: Vec<_> = generator::exchange_cases(SEED, 100).collect();
+    assert_eq!(exchanges, more[..50]);
     let lines: Vec<_> = generator::line_cases(SEED, 50).collect();
     let again: Vec<_> = generator::line_cases(SEED, 50).collect();
     assert_eq!(lines, again);

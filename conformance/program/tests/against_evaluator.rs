@@ -265,7 +265,7 @@ fn every_row_of_the_definitions() {
             _ => {}
         }
     }
-    assert_eq!((runs, decisions), (6, 118), "runs and decisions");
+    assert_eq!((runs, decisions), (6, 150), "runs and decisions");
 }
 
 /// The examples of the sources in the RFC's dialect, with the answers that are

@@ -97,7 +97,7 @@ fn check_deciding_octets(file: &[u8], answer: &Decision) {
 }
 
 /// "A line ends at CR LF (one ending), CR or LF".
-fn endings(text: &[u8]) -> usize {
+pub fn endings(text: &[u8]) -> usize {
     let feeds = text.iter().filter(|octet| **octet == b'\n').count();
     let returns = text.iter().filter(|octet| **octet == b'\r').count();
     let both = text.windows(2).filter(|pair| pair == b"\r\n").count();

@@ -1,14 +1,14 @@
-//! The rows of the definitions' tables: document 01's and ours.
+//! The questions of the rows of the definitions' tables: document 01's and ours.
 
 use examples::{definition_rows, Asked};
 
 use crate::ask;
 use crate::deciding::check_decide_in;
 
-/// How many rows ask the library: all but those of the program.
-const ROWS: usize = 261;
+/// How many questions ask the library: all but those of the program.
+const QUESTIONS: usize = 293;
 
-/// Whether the row asks the library.
+/// Whether the question asks the library.
 fn check(asked: &Asked) -> bool {
     match asked {
         Asked::Decide {
@@ -42,10 +42,10 @@ fn check(asked: &Asked) -> bool {
 
 #[test]
 fn the_library_gives_every_row_of_the_definitions() {
-    let mut rows = 0;
+    let mut questions = 0;
     for row in definition_rows() {
         println!("{}", row.place);
-        rows += usize::from(check(&row.asked));
+        questions += usize::from(check(&row.asked));
     }
-    assert_eq!(rows, ROWS, "rows that ask the library");
+    assert_eq!(questions, QUESTIONS, "questions that ask the library");
 }

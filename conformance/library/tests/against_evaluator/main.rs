@@ -13,6 +13,11 @@ mod deciding;
 mod definition_rows;
 mod dense;
 mod draft;
+mod exchange;
+mod exchange_answers;
+mod exchange_examples;
+mod exchange_hypotheses;
+mod exchange_rows;
 mod generated;
 mod generated_paths;
 mod limits;
@@ -25,5 +30,8 @@ mod pattern_octets;
 mod small_files;
 mod small_patterns;
 mod source_examples;
+#[allow(dead_code)]
+#[path = "../../../generator/tests/support/mod.rs"]
+mod support;
 mod texts;
 mod walks;

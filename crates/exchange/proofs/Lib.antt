@@ -1,0 +1,8 @@
+pub mod Apart
+pub mod Answers
+pub mod Parts
+pub mod Marks
+pub mod Groups
+pub mod Numbers
+pub mod Orders
+pub mod Examples
