@@ -174,12 +174,12 @@ first-cut c (d ∷ l) back h =
     (first-cut d l back (sym (ended-behind c d l) ∙ h)))
 
 -- the lines of back behind front, of which ls are the lines
-abbrev pub linesPast : LineNumber → Place → List ℕ → List Line → List ℕ → List Line
-linesPast n p front ls back = linesFrom (numberAfter n (length ls)) (placeAfter p (length front)) (oneIf (joined front back)) back
+abbrev pub backLines : LineNumber → Place → List ℕ → List Line → List ℕ → List Line
+backLines n p front ls back = linesFrom (numberAfter n (length ls)) (placeAfter p (length front)) (oneIf (joined front back)) back
 
 module _ (back : List ℕ) where
   abbrev Appends : LineNumber → Place → List ℕ → Type 0
-  Appends n p front = linesFrom n p 0 (front ++ back) ≡ linesFrom n p 0 front ++ linesPast n p front (linesFrom n p 0 front) back
+  Appends n p front = linesFrom n p 0 (front ++ back) ≡ linesFrom n p 0 front ++ backLines n p front (linesFrom n p 0 front) back
 
   append-inside : (n : LineNumber) (p : Place) (c : ℕ) (l : List ℕ) → any lineEnd (c ∷ l) ≡ true → Inside (c ∷ l) back
       → Appends (numberAfter n 1) (placeAfter p (lineLength (c ∷ l))) (drop (lineLength (c ∷ l)) (c ∷ l)) → Appends n p (c ∷ l)
@@ -234,7 +234,7 @@ module _ (back : List ℕ) where
 -- The lines of front ++ back are those of front and behind them those of back. Where front ends in CR and back begins with LF, this LF belongs
 -- to the last line of front, and back's first line, a blank one, is lost.
 pub lines-append : (n : LineNumber) (p : Place) (front back : List ℕ) → ended front ≡ true
-    → linesFrom n p 0 (front ++ back) ≡ linesFrom n p 0 front ++ linesPast n p front (linesFrom n p 0 front) back
+    → linesFrom n p 0 (front ++ back) ≡ linesFrom n p 0 front ++ backLines n p front (linesFrom n p 0 front) back
 lines-append n p front back h = append-within back (length front) n p front (omega arith) h
 
 -- the line that is lost
@@ -307,6 +307,6 @@ entries-append above ruled (l ∷ ls) ms =
 pub entries-both : (above : ℕ) (ruled : Bool) (n : LineNumber) (p : Place) (front back : List ℕ) → ended front ≡ true
     → (let ls = linesFrom n p 0 front in
     entriesFrom above ruled (linesFrom n p 0 (front ++ back))
-    ≡ entriesFrom above ruled ls ++ entriesFrom (aboveBehind above ruled ls) (ruledBehind ruled ls) (linesPast n p front ls back))
+    ≡ entriesFrom above ruled ls ++ entriesFrom (aboveBehind above ruled ls) (ruledBehind ruled ls) (backLines n p front ls back))
 entries-both above ruled n p front back h =
-    let ls = linesFrom n p 0 front in rw (lines-append n p front back h) (entries-append above ruled ls (linesPast n p front ls back))
+    let ls = linesFrom n p 0 front in rw (lines-append n p front back h) (entries-append above ruled ls (backLines n p front ls back))

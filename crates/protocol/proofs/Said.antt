@@ -20,7 +20,7 @@ use Rattle.protocol.specs.Entries.{Role, Entry, roleOf, groupAt, ruledAf
 use Rattle.protocol.specs.Rules.{valueOf}
 use Rattle.protocol.proofs.FrontToBack.{lines-all}
 use Rattle.protocol.proofs.Inside.{InFile, lines-inside, value-in-file}
-use Rattle.protocol.proofs.Appended.{joined, linesPast, lines-append, lines-joined}
+use Rattle.protocol.proofs.Appended.{joined, backLines, lines-append, lines-joined}
 
 -- an agent line or a rule line, by its role and its value
 pub record Said : Type 0 where
@@ -106,7 +106,7 @@ said-append front back h =
     let m = numberAfter n (length ls) in
     let q = placeAfter p (length front) in
     rw (lines-append n p front back h)
-    (said-append-lines ls (linesPast n p front ls back)
+    (said-append-lines ls (backLines n p front ls back)
     ∙ ap (λ (ss : List Said). saidIn ls ++ ss) (said-joined m q front back ∙ said-anywhere m n q p 0 back))
 
 -- The entries of a file say what it says behind its leading mark.
