@@ -1,15 +1,15 @@
--- Two files of one length, of which the lines and the rules that apply say the same but for two parts that are exchanged, are answered alike.
--- Assumes nothing.
+-- Two files of one length, of which the lines and the rules that apply say the same in another order, are answered alike. Assumes nothing.
 use Prim.Native.Nat.{ℕ}
 use mathlib.Core.Path.{_≡_, refl, sym, ap, _∙_}
-use mathlib.Core.List.{List, _++_, map, List·Memᴰ, Memᴰ·map, Memᴰ·of-map}
+use mathlib.Core.List.{List, map, List·Memᴰ, Memᴰ·map, Memᴰ·of-map, List·Permᴰ, Permᴰ·symm}
 use lib.Dec.{eqb}
 use lib.ListN.{length}
 use borrow.Author.Tests.{eqb-true, eqb-false}
 use Rattle.lists.specs.Choice.{if_then_else_, oneIf}
 use Rattle.lists.specs.Lists.{total}
 use Rattle.lists.proofs.Bools.{split}
-use Rattle.lists.proofs.Appends.{total-map, total-kept, total-exchanged, member-exchanged}
+use Rattle.lists.proofs.Appends.{total-map, total-kept}
+use Rattle.lists.proofs.Orders.{total-ordered, member-ordered}
 use Rattle.protocol.specs.declared.Dialect.{Dialect}
 use Rattle.protocol.specs.declared.Side.{Side}
 use Rattle.protocol.specs.declared.Rule.{Rule}
@@ -36,26 +36,8 @@ rulesSaid file name = map (ruleSays file) (applying file (entries file) name)
 abbrev pub linesSaid : List ℕ → List Said
 linesSaid file = map (entrySays file) (entries file)
 
--- the two lists are alike but for two neighbouring parts, which are exchanged
-pub record Swapped (l m : List Said) : Type 0 where
-  pub front : List Said
-  pub one : List Said
-  pub two : List Said
-  pub rest : List Said
-  pub before : l ≡ front ++ (one ++ (two ++ rest))
-  pub after : m ≡ front ++ (two ++ (one ++ rest))
-
-swapped-total : (f : Said → ℕ) (l m : List Said) → Swapped l m → total f l ≡ total f m
-swapped-total f l m s = rw (s .before, s .after) (total-exchanged (s .front) (s .one) (s .two) (s .rest) f)
-
-swapped-member : (l m : List Said) → Swapped l m → (a : Said) → List·Memᴰ a l → List·Memᴰ a m
-swapped-member l m s a k = rw (s .after) (member-exchanged (s .front) (s .one) (s .two) (s .rest) a (rw (s .before) at k))
-
-pub swapped-back : (l m : List Said) → Swapped l m → Swapped m l
-swapped-back l m s = record { front = s .front; one = s .two; two = s .one; rest = s .rest; before = s .after; after = s .before }
-
 -- a rule of one file for a rule of the other: same side, same pattern
-module _ (file other name path : List ℕ) (same : Swapped (rulesSaid file name) (rulesSaid other name)) where
+module _ (file other name path : List ℕ) (same : List·Permᴰ (rulesSaid file name) (rulesSaid other name)) where
   record Twin (r : Rule) : Type 0 where
     twin : Rule
     candidate : Candidate Dialect.Rfc9309 other (entries other) name path twin
@@ -64,7 +46,7 @@ module _ (file other name path : List ℕ) (same : Swapped (rulesSaid file name)
   twin-of : (r : Rule) → Candidate Dialect.Rfc9309 file (entries file) name path r → Twin r
   twin-of r c =
       let there : List·Memᴰ (ruleSays file r) (rulesSaid other name)
-      = swapped-member (rulesSaid file name) (rulesSaid other name) same (ruleSays file r) (Memᴰ·map (ruleSays file) (c .applies)) in
+      = member-ordered (ruleSays file r) same (Memᴰ·map (ruleSays file) (c .applies)) in
       let (s, m, e) = Memᴰ·of-map (ruleSays other) (applying other (entries other) name) there in
       let p : patternOf other s ≡ patternOf file r = ap (λ (x : Said). x .value) e in
       record {
@@ -89,11 +71,11 @@ module _ (file other name path : List ℕ) (same : Swapped (rulesSaid file name)
       side-known e = ap sideOf e
 
 -- a path that one file closes, the other closes
-closed-too : (file other name path : List ℕ) → Swapped (rulesSaid file name) (rulesSaid other name)
+closed-too : (file other name path : List ℕ) → List·Permᴰ (rulesSaid file name) (rulesSaid other name)
     → Closed file (entries file) name path → Closed other (entries other) name path
 closed-too file other name path same c =
     let t = twin-of file other name path same (c .rule) (c .candidate) in
-    let back = swapped-back (rulesSaid file name) (rulesSaid other name) same in
+    let back = Permᴰ·symm same in
     record {
       rule = t .twin;
       candidate = t .candidate;
@@ -130,10 +112,10 @@ sides Side.Allow Side.Disallow f g = g refl
 sides Side.Disallow Side.Allow f g = sym (f refl)
 sides Side.Disallow Side.Disallow f g = refl
 
-module _ (file other name path : List ℕ) (size : length file ≡ length other) (lines : Swapped (linesSaid file) (linesSaid other))
-    (rules : Swapped (rulesSaid file name) (rulesSaid other name)) where
-  abbrev back : Swapped (rulesSaid other name) (rulesSaid file name)
-  back = swapped-back (rulesSaid file name) (rulesSaid other name) rules
+module _ (file other name path : List ℕ) (size : length file ≡ length other) (lines : List·Permᴰ (linesSaid file) (linesSaid other))
+    (rules : List·Permᴰ (rulesSaid file name) (rulesSaid other name)) where
+  abbrev back : List·Permᴰ (rulesSaid other name) (rulesSaid file name)
+  back = Permᴰ·symm rules
 
   abbrev same-refusal : decideRefusal 0 file name path ≡ decideRefusal 0 other name path
   same-refusal = refusal-by-length file other name path size
@@ -155,7 +137,7 @@ module _ (file other name path : List ℕ) (size : length file ≡ length other)
     same-unread =
         decide-unread 0 file name path z
         ∙ unread-said file
-        ∙ swapped-total _ (linesSaid file) (linesSaid other) lines
+        ∙ total-ordered _ lines
         ∙ sym (decide-unread 0 other name path w ∙ unread-said other)
 
     same-compared : decide 0 file name path .compared ≡ decide 0 other name path .compared
@@ -166,7 +148,7 @@ module _ (file other name path : List ℕ) (size : length file ≡ length other)
         (λ e.
         decide-compared file name path z e
         ∙ compared-said file name p
-        ∙ swapped-total _ (rulesSaid file name) (rulesSaid other name) rules
+        ∙ total-ordered _ rules
         ∙ sym (decide-compared other name path w e ∙ compared-said other name p))
 
     alike-answered : Alike (decide 0 file name path) (decide 0 other name path)

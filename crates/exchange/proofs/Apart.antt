@@ -1,17 +1,19 @@
 -- Texts whose groups are apart: the first closes its last group, and the second opens a new one. Assumes nothing.
 use Prim.Native.Nat.{ℕ}
 use mathlib.Core.Path.{_≡_, refl, sym, ap, _∙_}
-use mathlib.Core.Bool.{Bool, true, false, _||_, or-true, false≢true}
+use mathlib.Core.Bool.{Bool, true, false, _||_, not, or-true, false≢true}
+use native.Mathlib.Omega.{arith}
 use lib.Dec.{eqb}
-use mathlib.Core.List.{List, [], _∷_, _++_, map, map-append}
+use Rattle.lists.specs.Each.{Each}
+use Rattle.lists.proofs.Places.{occurs-drop}
+use mathlib.Core.List.{List, [], _∷_, _++_, map, map-map}
 use mathlib.Core.Option.{Option, none, some}
-use Rattle.protocol.specs.declared.Kind.{Kind}
-use Rattle.protocol.specs.Text.{octetsAt}
-use Rattle.protocol.specs.Lines.{Line, lineNumber, placeAt, linesFrom, ended}
-use Rattle.protocol.specs.Kinds.{kindOf, placeOf, lengthOf}
-use Rattle.protocol.specs.Entries.{Role, agent, rule, Entry, roleOf, groupAt, ruledAfter, entryOf, entriesFrom}
+use Rattle.protocol.specs.Lines.{Line, lineNumber, placeAt, linesFrom}
+use Rattle.protocol.specs.Kinds.{kindOf}
+use Rattle.protocol.specs.Entries.{Role, agent, rule, roleOf, groupAt, ruledAfter, entryOf, entriesFrom}
 use Rattle.protocol.proofs.Appended.{aboveBehind, ruledBehind}
-use Rattle.protocol.proofs.Said.{Said, saidAs, saidOf, saidIn, said, said-append}
+use Rattle.protocol.proofs.Said.{Said, entrySays, said, entries-say}
+use Rattle.protocol.proofs.Inside.{InFile, lines-in}
 use Rattle.protocol.proofs.Groups.{group-some, appliesAfter, joinsAfter, joinsBehind, appliesBehind, saidHere, saidFor, groups-append}
 use Rattle.exchange.specs.Exchange.{rolesIn, isAgent, isRule, opens, closes}
 
@@ -19,41 +21,42 @@ use Rattle.exchange.specs.Exchange.{rolesIn, isAgent, isRule, opens, clo
 abbrev pub roles : List Said → List Role
 roles ss = map (λ s. s .role) ss
 
-entry-role : (g : ℕ) (l : Line) (k : Kind) (ro : Option Role) (v : List ℕ) → map (λ e. e .role) (entryOf g l k ro) ≡ roles (saidAs ro v)
-unfolding entryOf saidAs
-entry-role g l k none v = refl
-entry-role g l k (some ro) v = refl
-
-lines-roles : (above : ℕ) (ruled : Bool) (ls : List Line) → map (λ e. e .role) (entriesFrom above ruled ls) ≡ roles (saidIn ls)
-unfolding entriesFrom saidIn saidOf
-lines-roles above ruled [] = refl
-lines-roles above ruled (l ∷ ls) =
-    let k = kindOf (l .text) in
-    let ro = roleOf k in
-    let g = groupAt above ruled ro in
-    let v = octetsAt (l .text) (placeOf k) (lengthOf k) in
-    map-append (λ (e : Entry). e .role) (entryOf g l k ro) (entriesFrom g (ruledAfter ruled ro) ls)
-    ∙ rw (entry-role g l k ro v, lines-roles g (ruledAfter ruled ro) ls, map-append (λ (s : Said). s .role) (saidAs ro v) (saidIn ls))
-
 -- The agent and rule lines of a text, by what it says
 pub roles-said : (text : List ℕ) → rolesIn text ≡ roles (said text)
 unfolding rolesIn
-roles-said text = lines-roles 0 false (linesFrom (lineNumber 1) (placeAt 0) 0 text)
+roles-said text =
+    let ls = linesFrom (lineNumber 1) (placeAt 0) 0 text in
+    let es = entriesFrom 0 false ls in
+    let inside : Each (InFile text) ls = lines-in text (lineNumber 1) (placeAt 0) 0 text (occurs-drop text 0 (omega arith)) in
+    sym (map-map (λ (s : Said). s .role) (entrySays text) es) ∙ ap roles (entries-say text 0 false ls inside)
+
+-- what closes, behind a last agent or rule line that does or doesn't
+closesFrom : Bool → List Role → Bool
+closesFrom b [] = b
+closesFrom b (r ∷ rs) = closesFrom (isRule r) rs
+
+closes-last : (b : Bool) (r : Role) (rs : List Role) → closesFrom b (r ∷ rs) ≡ closes (r ∷ rs)
+unfolding closesFrom closes
+closes-last b r [] = refl
+closes-last b r (s ∷ rs) = closes-last (isRule r) s rs
+
+closes-from : (rs : List Role) → closesFrom true rs ≡ closes rs
+unfolding closesFrom closes
+closes-from [] = refl
+closes-from (r ∷ rs) = closes-last true r rs
 
 -- behind what closes, no agent line joins
-closed-joins : (joins : Bool) (s : Said) (ss : List Said) → closes (roles (s ∷ ss)) ≡ true → joinsBehind joins (s ∷ ss) ≡ false
-unfolding closes joinsBehind
-closed-joins joins s [] h = go (s .role) h
+joins-behind : (b : Bool) (ss : List Said) → joinsBehind (not b) ss ≡ not (closesFrom b (roles ss))
+unfolding closesFrom joinsBehind
+joins-behind b [] = refl
+joins-behind b (s ∷ ss) = rw (joins-after (s .role)) (joins-behind (isRule (s .role)) ss)
   where
-    go : (ro : Role) → isRule ro ≡ true → joinsAfter ro ≡ false
-    go agent h = absurd (false≢true h)
-    go (rule side) h = refl
-closed-joins joins s (t ∷ ss) h = closed-joins (joinsAfter (s .role)) t ss h
+    joins-after : (ro : Role) → joinsAfter ro ≡ not (isRule ro)
+    joins-after agent = refl
+    joins-after (rule side) = refl
 
-pub closes-joins : (ss : List Said) → closes (roles ss) ≡ true → joinsBehind false ss ≡ false
-unfolding joinsBehind
-closes-joins [] h = refl
-closes-joins (s ∷ ss) h = closed-joins false s ss h
+closes-joins : (ss : List Said) → closes (roles ss) ≡ true → joinsBehind false ss ≡ false
+closes-joins ss h = joins-behind true ss ∙ ap not (closes-from (roles ss) ∙ h)
 
 module _ (who : List ℕ) where
   -- the rules of what opens are its own, whatever is above
@@ -75,41 +78,10 @@ module _ (who : List ℕ) where
       groups-append who false false ss ts
       ∙ rw (closes-joins ss c) (ap (λ (l : List Said). saidFor who false false ss ++ l) (opened (appliesBehind who false false ss) ts o))
 
--- one behind the other
-pub opens-both : (rs ss : List Role) → opens rs ≡ true → opens ss ≡ true → opens (rs ++ ss) ≡ true
-opens-both [] ss h k = k
-opens-both (r ∷ rs) ss h k = h
-
-pub closes-both : (rs ss : List Role) → closes rs ≡ true → closes ss ≡ true → closes (rs ++ ss) ≡ true
-unfolding closes
-closes-both [] ss h k = k
-closes-both (r ∷ []) [] h k = h
-closes-both (r ∷ []) (s ∷ ss) h k = k
-closes-both (r ∷ t ∷ rs) ss h k = closes-both (t ∷ rs) ss h k
-
+-- what opens, in front of what opens
 pub opens-append : (ss ts : List Said) → opens (roles ss) ≡ true → opens (roles ts) ≡ true → opens (roles (ss ++ ts)) ≡ true
-opens-append ss ts h k = rw (map-append (λ (s : Said). s .role) ss ts) (opens-both (roles ss) (roles ts) h k)
-
--- the agent and rule lines of texts put together
-pub roles-append : (front back : List ℕ) → ended front ≡ true → rolesIn (front ++ back) ≡ rolesIn front ++ rolesIn back
-roles-append front back h =
-    rw (roles-said (front ++ back), said-append front back h, roles-said front, roles-said back)
-    (map-append (λ (s : Said). s .role) (said front) (said back))
-
--- what closes, behind lines of which the last has that test
-closesFrom : Bool → List Role → Bool
-closesFrom b [] = b
-closesFrom b (r ∷ rs) = closesFrom (isRule r) rs
-
-closes-last : (b : Bool) (r : Role) (rs : List Role) → closesFrom b (r ∷ rs) ≡ closes (r ∷ rs)
-unfolding closesFrom closes
-closes-last b r [] = refl
-closes-last b r (s ∷ rs) = closes-last (isRule r) s rs
-
-closes-from : (rs : List Role) → closesFrom true rs ≡ closes rs
-unfolding closesFrom closes
-closes-from [] = refl
-closes-from (r ∷ rs) = closes-last true r rs
+opens-append [] ts h k = k
+opens-append (s ∷ ss) ts h k = h
 
 -- an agent line here starts a new group
 abbrev fresh : ℕ → Bool → Bool

@@ -1,21 +1,24 @@
--- M-108: two neighbouring groups are exchanged, and every question is answered as before. Assumes nothing.
+-- M-108: groups are put in another order, and every question is answered as before. Assumes nothing.
 use Prim.Native.Nat.{ℕ}
 use mathlib.Core.Path.{_≡_, refl, sym, _∙_}
 use mathlib.Core.Bool.{true, false, or-false, false≢true}
-use mathlib.Core.List.{List, [], _∷_, _++_, map}
+use mathlib.Core.List.{List, [], _∷_, _++_, map, flatten, append-assoc, List·Permᴰ, List·Permᴰ·swap}
+use native.Mathlib.Omega.{arith}
 use mathlib.Core.Option.{Option, none, some}
 use borrow.Author.Tests.{not-true}
-use Rattle.lists.specs.Lists.{empty, all, any, from, same}
+use Rattle.lists.specs.Each.{Each}
+use Rattle.lists.specs.Lists.{total, empty, all, any, from, same}
 use Rattle.lists.proofs.Bools.{split, and-left, and-right}
-use Rattle.lists.proofs.Parts.{each-append}
+use Rattle.lists.proofs.Members.{each-map}
+use Rattle.lists.proofs.Orders.{total-ordered, each-ordered}
 use Rattle.lists.proofs.Tests.{empty-known}
 use Rattle.protocol.specs.Lines.{Line, lineText, linesFrom, hasLeadingMark, ended}
 use Rattle.protocol.specs.declared.Kind.{Kind}
 use Rattle.protocol.specs.Kinds.{kindOf}
 use Rattle.protocol.specs.Entries.{Role, Entry, roleOf, entryOf, entriesFrom}
 use Rattle.protocol.specs.Answers.{decide}
-use Rattle.exchange.specs.Exchange.{rolesIn, isRule, someAgent, opens, closes, Parts, fileOf, exchanged, leadingMark, isMark, isAgentLine, groupTests, partTests, groupsTests, Pass, Alike}
-use Rattle.exchange.proofs.Parts.{parts-exchanged}
+use Rattle.exchange.specs.Exchange.{rolesIn, isRule, someAgent, isAgentLine, opens, closes, groupTests, partTests, leadingMark, isMark, Parts, fileOf, exchanged, aroundTests, groupsTests, Pass, fileWith, Alike}
+use Rattle.exchange.proofs.Parts.{parts-in-order, two-parts}
 use Rattle.exchange.proofs.Marks.{agent-unmarked, ended-marks}
 
 -- rule lines only, or no line at all, close
@@ -49,28 +52,54 @@ group-opens (c ∷ l) h = agent-opens (roleOf (kindOf (lineText (c ∷ l)))) _ _
 pub group-part : (text : List ℕ) → Pass (groupTests text) → Pass (partTests text)
 group-part text (first, (ruled, (ordered, (end, t)))) = (group-opens text first, (group-closes (rolesIn text) ruled ordered, (end, tt)))
 
--- where the file doesn't begin with EF BB BF, the exchanged one doesn't
-still-unmarked : (front one two rest : List ℕ) → ended front ≡ true → isAgentLine (lineText two) ≡ true
-    → hasLeadingMark (front ++ (one ++ (two ++ rest))) ≡ false → hasLeadingMark (front ++ (two ++ (one ++ rest))) ≡ false
-still-unmarked [] one two rest e a h = agent-unmarked two (one ++ rest) a
-still-unmarked (c ∷ l) one two rest e a h = sym (ended-marks c l (one ++ (two ++ rest)) (two ++ (one ++ rest)) e) ∙ h
+-- no groups in no order
+none-ordered : (gs : List (List ℕ)) → List·Permᴰ gs [] → gs ≡ []
+unfolding total
+none-ordered [] d = refl
+none-ordered (g ∷ gs) d = absurd (omega (arith, total-ordered (λ (x : List ℕ). 1) d))
 
-pub still-marked : (p : Parts) → ended (p .front) ≡ true → isAgentLine (lineText (p .two)) ≡ true → isMark (p .mark) (fileOf p) ≡ true → isMark (p .mark) (fileOf (exchanged p)) ≡ true
-unfolding isMark fileOf
-still-marked p e a h =
-    split (same (p .mark) leadingMark) (λ m. rw m)
-    (λ m.
-    let k = rw m at h in
-    let none : p .mark ≡ [] = empty-known (p .mark) (and-left (empty (p .mark)) _ k) in
-    let unmarked : hasLeadingMark (p .front ++ (p .one ++ (p .two ++ p .rest))) ≡ false
-    = rw none at (not-true (hasLeadingMark (fileOf p)) (and-right (empty (p .mark)) _ k)) in
-    rw (m, none, still-unmarked (p .front) (p .one) (p .two) (p .rest) e a unmarked))
+module _ (rest : List ℕ) where
+  -- where a file doesn't begin with EF BB BF, it doesn't with its groups in another order
+  still-unmarked : (front : List ℕ) (gs hs : List (List ℕ)) → List·Permᴰ gs hs → ended front ≡ true → Each (λ g. Pass (groupTests g)) hs
+      → hasLeadingMark (front ++ (flatten gs ++ rest)) ≡ false → hasLeadingMark (front ++ (flatten hs ++ rest)) ≡ false
+  unfolding flatten
+  still-unmarked (c ∷ l) gs hs d e groups h = sym (ended-marks c l (flatten gs ++ rest) (flatten hs ++ rest) e) ∙ h
+  still-unmarked [] gs [] d e groups h = rw (none-ordered gs d) at h
+  still-unmarked [] gs (g ∷ hs) d e ((first, t), groups) h =
+      rw (append-assoc g (flatten hs) rest) (agent-unmarked g (flatten hs ++ rest) first)
+
+  still-marked : (mark front : List ℕ) (gs hs : List (List ℕ)) → List·Permᴰ gs hs → ended front ≡ true → Each (λ g. Pass (groupTests g)) hs
+      → isMark mark (fileWith mark front gs rest) ≡ true → isMark mark (fileWith mark front hs rest) ≡ true
+  unfolding isMark fileWith
+  still-marked mark front gs hs d e groups h =
+      split (same mark leadingMark) (λ m. rw m)
+      (λ m.
+      let k = rw m at h in
+      let none : mark ≡ [] = empty-known mark (and-left (empty mark) _ k) in
+      let unmarked : hasLeadingMark (front ++ (flatten gs ++ rest)) ≡ false
+      = rw none at (not-true (hasLeadingMark (mark ++ (front ++ (flatten gs ++ rest)))) (and-right (empty mark) _ k)) in
+      rw (m, none, still-unmarked front gs hs d e groups unmarked))
+
+-- "Groups in any order": any number of them.
+pub any-order : (mark front rest : List ℕ) (gs hs : List (List ℕ)) → List·Permᴰ gs hs
+    → Pass (isMark mark (fileWith mark front gs rest) ∷ aroundTests front rest) → Each (λ g. Pass (groupTests g)) gs → (name path : List ℕ)
+    → Alike (decide 0 (fileWith mark front gs rest) name path) (decide 0 (fileWith mark front hs rest) name path)
+any-order mark front rest gs hs d (m, (e, around)) groups name path =
+    let n = still-marked rest mark front gs hs d e (each-ordered (λ g. Pass (groupTests g)) d groups) m in
+    parts-in-order mark front rest gs hs d (m, (n, (e, around)))
+    (each-map (λ g. Pass (groupTests g)) (λ g. Pass (partTests g)) gs group-part groups)
+    name
+    path
 
 -- "exchanging two neighbouring groups, each with at least one rule line, of any readability, and each line ended, leaves allow or disallow as it
 -- was for every name and path."
 pub groups-exchanged : (p : Parts) → Pass (groupsTests p) → (name path : List ℕ)
     → Alike (decide 0 (fileOf p) name path) (decide 0 (fileOf (exchanged p)) name path)
-groups-exchanged p (marked, (front, (closed, (rest, (a, (b, (c, (d, two)))))))) name path =
-    let parts : Pass (partTests (p .one) ++ partTests (p .two))
-    = each-append (λ t. t ≡ true) (partTests (p .one)) (partTests (p .two)) (group-part (p .one) (a, (b, (c, (d, tt))))) (group-part (p .two) two) in
-    parts-exchanged p (marked, (still-marked p front (two .0) marked, (front, (closed, (rest, parts))))) name path
+groups-exchanged p (m, (e, (c, (o, (i, (j, (k, (l, two)))))))) name path =
+    let before = two-parts p in
+    rw (before, two-parts (exchanged p)) at
+    (any-order (p .mark) (p .front) (p .rest) (p .one ∷ p .two ∷ []) (p .two ∷ p .one ∷ []) (List·Permᴰ·swap refl refl)
+    (rw before m, (e, (c, (o, tt))))
+    ((i, (j, (k, (l, tt)))), (two, tt))
+    name
+    path)

@@ -4,5 +4,4 @@ pub mod Parts
 pub mod Marks
 pub mod Groups
 pub mod Numbers
-pub mod Orders
 pub mod Examples

@@ -1,16 +1,19 @@
--- M-108: two neighbouring parts of whole groups are exchanged, and every question is answered as before. Assumes nothing.
+-- M-108: parts of whole groups are put in another order, and every question is answered as before. Assumes nothing.
 use Prim.Native.Nat.{ℕ}
-use mathlib.Core.Path.{_≡_, sym, ap, _∙_}
+use mathlib.Core.Path.{_≡_, refl, sym, ap, _∙_}
 use mathlib.Core.Bool.{Bool, true, false}
-use mathlib.Core.List.{List, [], _++_}
+use mathlib.Core.List.{List, [], _∷_, _++_, map, flatten, append-assoc, List·Permᴰ, List·Permᴰ·swap, Permᴰ·append-left, Permᴰ·append-right}
 use native.Mathlib.Omega.{arith}
 use lib.ListN.{length, drop, length-append}
 use borrow.Author.Tests.{not-true}
 use Rattle.lists.specs.Choice.{if_then_else_}
-use Rattle.lists.specs.Lists.{empty, any, same}
+use Rattle.lists.specs.Each.{Each}
+use Rattle.lists.specs.Lists.{empty, any, total, same}
 use Rattle.lists.proofs.Bools.{split, and-left, and-right}
 use Rattle.lists.proofs.Tests.{empty-known, same-equal}
-use Rattle.lists.proofs.Appends.{any-map, any-exchanged}
+use Rattle.lists.proofs.Appends.{any-map}
+use Rattle.lists.proofs.Members.{each-map}
+use Rattle.lists.proofs.Orders.{total-ordered, any-ordered, each-ordered, flatten-ordered}
 use Rattle.protocol.specs.Lines.{hasLeadingMark, skipped, ended}
 use Rattle.protocol.specs.Readable.{everyone}
 use Rattle.protocol.specs.Entries.{Role, entries}
@@ -19,9 +22,9 @@ use Rattle.protocol.specs.Answers.{decide}
 use Rattle.protocol.proofs.Applying.{addressee, applying-addressee}
 use Rattle.protocol.proofs.Said.{Said, entrySays, said, said-append, file-says}
 use Rattle.protocol.proofs.Groups.{agentNames, some-named, file-grouped, saidFor, rules-say}
-use Rattle.exchange.specs.Exchange.{rolesIn, opens, closes, Parts, fileOf, exchanged, leadingMark, isMark, partTests, partsTests, Pass, Alike}
+use Rattle.exchange.specs.Exchange.{rolesIn, opens, closes, partTests, leadingMark, isMark, Parts, fileOf, exchanged, aroundTests, partsTests, Pass, fileWith, Alike}
 use Rattle.exchange.proofs.Apart.{roles, roles-said, apart, opens-append}
-use Rattle.exchange.proofs.Answers.{rulesSaid, linesSaid, Swapped, alike}
+use Rattle.exchange.proofs.Answers.{rulesSaid, linesSaid, alike}
 
 -- of a crawler's name and "*", the one whose groups apply, by what the lines say
 abbrev whose : List ℕ → List Said → List ℕ
@@ -35,43 +38,23 @@ rules-said file name =
     = some-named file name 0 false es (file-grouped file) ∙ sym (any-map (entrySays file) (λ s. agentNames name (s .role) (s .value)) es) in
     rw (applying-addressee file es name, rules-say (addressee file es name) file, named)
 
--- the file behind its mark
-abbrev body : Parts → List ℕ
-body p = p .front ++ (p .one ++ (p .two ++ p .rest))
-
-behind-mark : (p : Parts) → isMark (p .mark) (fileOf p) ≡ true → drop (skipped (fileOf p)) (fileOf p) ≡ body p
-unfolding isMark fileOf hasLeadingMark
-behind-mark p h =
-    split (same (p .mark) leadingMark)
-    (λ e. let m : p .mark ≡ leadingMark = same-equal (p .mark) leadingMark .0 e in rw m)
+-- a file behind its mark
+behind-mark : (mark body : List ℕ) → isMark mark (mark ++ body) ≡ true → drop (skipped (mark ++ body)) (mark ++ body) ≡ body
+unfolding isMark hasLeadingMark
+behind-mark mark body h =
+    split (same mark leadingMark)
+    (λ e. let m : mark ≡ leadingMark = same-equal mark leadingMark .0 e in rw m)
     (λ e.
     let k = rw e at h in
-    let m : p .mark ≡ [] = empty-known (p .mark) (and-left (empty (p .mark)) _ k) in
-    let n = not-true (hasLeadingMark (p .mark ++ body p)) (and-right (empty (p .mark)) _ k) in
+    let m : mark ≡ [] = empty-known mark (and-left (empty mark) _ k) in
+    let n = not-true (hasLeadingMark (mark ++ body)) (and-right (empty mark) _ k) in
     rw (n, m))
 
--- the tests of a part, and of what stands around, by what is said
+-- the tests of a part, by what it says
 record Part (text : List ℕ) : Type 0 where
   opens : opens (roles (said text)) ≡ true
   closes : closes (roles (said text)) ≡ true
   ended : ended text ≡ true
-
-record Whole (p : Parts) : Type 0 where
-  front-ended : ended (p .front) ≡ true
-  front-closes : closes (roles (said (p .front))) ≡ true
-  one : Part (p .one)
-  two : Part (p .two)
-  rest-opens : opens (roles (said (p .rest))) ≡ true
-
-whole-back : (p : Parts) → Whole p → Whole (exchanged p)
-whole-back p h =
-    record {
-      front-ended = h .front-ended;
-      front-closes = h .front-closes;
-      one = h .two;
-      two = h .one;
-      rest-opens = h .rest-opens;
-    }
 
 -- a test of roles, of what is said
 said-test : (test : List Role → Bool) (text : List ℕ) → test (rolesIn text) ≡ true → test (roles (said text)) ≡ true
@@ -80,88 +63,122 @@ said-test test text k = rw (← roles-said text) k
 part : (text : List ℕ) → Pass (partTests text) → Part text
 part text (o, (c, (e, t))) = record { opens = said-test opens text o; closes = said-test closes text c; ended = e }
 
--- what the parts say, one after the other
-abbrev saidParts : Parts → List Said
-saidParts p = said (p .front) ++ (said (p .one) ++ (said (p .two) ++ said (p .rest)))
-
 abbrev rulesOf : List ℕ → List ℕ → List Said
 rulesOf who text = saidFor who false false (said text)
 
-module _ (p : Parts) (h : Whole p) where
-  body-says : said (body p) ≡ saidParts p
-  body-says =
-      said-append (p .front) (p .one ++ (p .two ++ p .rest)) (h .front-ended)
-      ∙ rw (said-append (p .one) (p .two ++ p .rest) (h .one .ended), said-append (p .two) (p .rest) (h .two .ended))
+-- parts, one behind the other, in front of a rest
+module _ (rest : List ℕ) (rest-opens : opens (roles (said rest)) ≡ true) where
+  -- what they say
+  abbrev saidOn : List (List ℕ) → List Said
+  saidOn ps = flatten (map said ps) ++ said rest
 
-  -- the rules of the groups are those of each part
-  parts-apart : (who : List ℕ)
-      → saidFor who false false (saidParts p) ≡ rulesOf who (p .front) ++ (rulesOf who (p .one) ++ (rulesOf who (p .two) ++ rulesOf who (p .rest)))
-  parts-apart who =
-      let last : List Said = said (p .two) ++ said (p .rest) in
-      let later : List Said = said (p .one) ++ last in
-      let last-opens : opens (roles last) ≡ true = opens-append (said (p .two)) (said (p .rest)) (h .two .opens) (h .rest-opens) in
-      let later-opens : opens (roles later) ≡ true = opens-append (said (p .one)) last (h .one .opens) last-opens in
-      apart who (said (p .front)) later (h .front-closes) later-opens
-      ∙ rw (apart who (said (p .one)) last (h .one .closes) last-opens, apart who (said (p .two)) (said (p .rest)) (h .two .closes) (h .rest-opens))
+  parts-say : (ps : List (List ℕ)) → Each Part ps → said (flatten ps ++ rest) ≡ saidOn ps
+  unfolding flatten
+  parts-say [] h = refl
+  parts-say (t ∷ ps) (k, h) =
+      rw (append-assoc t (flatten ps) rest, said-append t (flatten ps ++ rest) (k .ended), parts-say ps h)
+      (sym (append-assoc (said t) (flatten (map said ps)) (said rest)))
 
-  file-lines : isMark (p .mark) (fileOf p) ≡ true → linesSaid (fileOf p) ≡ saidParts p
-  file-lines m = file-says (fileOf p) ∙ rw (behind-mark p m) body-says
+  parts-open : (ps : List (List ℕ)) → Each Part ps → opens (roles (saidOn ps)) ≡ true
+  unfolding flatten
+  parts-open [] h = rest-opens
+  parts-open (t ∷ ps) (k, h) =
+      rw (append-assoc (said t) (flatten (map said ps)) (said rest)) (opens-append (said t) (saidOn ps) (k .opens) (parts-open ps h))
 
-same-length : (p : Parts) → length (fileOf p) ≡ length (fileOf (exchanged p))
-unfolding fileOf
-same-length p = simp length-append (omega arith)
+  -- the rules of their groups are those of each
+  parts-apart : (who : List ℕ) (ps : List (List ℕ)) → Each Part ps
+      → saidFor who false false (saidOn ps) ≡ flatten (map (rulesOf who) ps) ++ rulesOf who rest
+  unfolding flatten
+  parts-apart who [] h = refl
+  parts-apart who (t ∷ ps) (k, h) =
+      rw (append-assoc (said t) (flatten (map said ps)) (said rest), apart who (said t) (saidOn ps) (k .closes) (parts-open ps h), parts-apart who ps h)
+      (sym (append-assoc (rulesOf who t) (flatten (map (rulesOf who) ps)) (rulesOf who rest)))
 
-module _ (p : Parts) (h : Whole p) (m : isMark (p .mark) (fileOf p) ≡ true) (n : isMark (p .mark) (fileOf (exchanged p)) ≡ true) (name : List ℕ) where
-  abbrev file : List ℕ
-  file = fileOf p
+  -- behind a front
+  module _ (front : List ℕ) (front-ended : ended front ≡ true) (front-closes : closes (roles (said front)) ≡ true) where
+    abbrev saidAll : List (List ℕ) → List Said
+    saidAll ps = said front ++ saidOn ps
 
-  abbrev other : List ℕ
-  other = fileOf (exchanged p)
+    all-apart : (who : List ℕ) (ps : List (List ℕ)) → Each Part ps
+        → saidFor who false false (saidAll ps) ≡ rulesOf who front ++ (flatten (map (rulesOf who) ps) ++ rulesOf who rest)
+    all-apart who ps h = apart who (said front) (saidOn ps) front-closes (parts-open ps h) ∙ rw (parts-apart who ps h)
 
-  abbrev who : List ℕ
-  who = whose name (saidParts p)
+    file-lines : (mark : List ℕ) (ps : List (List ℕ)) → isMark mark (fileWith mark front ps rest) ≡ true → Each Part ps
+        → linesSaid (fileWith mark front ps rest) ≡ saidAll ps
+    unfolding fileWith
+    file-lines mark ps m h =
+        file-says (mark ++ (front ++ (flatten ps ++ rest)))
+        ∙ rw (behind-mark mark (front ++ (flatten ps ++ rest)) m, said-append front (flatten ps ++ rest) front-ended, parts-say ps h)
 
-  same-who : whose name (saidParts (exchanged p)) ≡ who
-  same-who =
-      let named : Said → Bool = λ s. agentNames name (s .role) (s .value) in
-      ap (λ (b : Bool). if b then name else everyone)
-      (any-exchanged (said (p .front)) (said (p .two)) (said (p .one)) (said (p .rest)) named)
+    -- in another order
+    module _ (mark : List ℕ) (ps qs : List (List ℕ)) (d : List·Permᴰ ps qs) (h : Each Part ps)
+        (m : isMark mark (fileWith mark front ps rest) ≡ true) (n : isMark mark (fileWith mark front qs rest) ≡ true) where
+      abbrev file : List ℕ
+      file = fileWith mark front ps rest
 
-  lines-swapped : Swapped (linesSaid file) (linesSaid other)
-  lines-swapped =
-      record {
-        front = said (p .front);
-        one = said (p .one);
-        two = said (p .two);
-        rest = said (p .rest);
-        before = file-lines p h m;
-        after = file-lines (exchanged p) (whole-back p h) n;
-      }
+      abbrev other : List ℕ
+      other = fileWith mark front qs rest
 
-  rules-swapped : Swapped (rulesSaid file name) (rulesSaid other name)
-  rules-swapped =
-      record {
-        front = rulesOf who (p .front);
-        one = rulesOf who (p .one);
-        two = rulesOf who (p .two);
-        rest = rulesOf who (p .rest);
-        before = rules-said file name ∙ rw (file-lines p h m) (parts-apart p h who);
-        after =
-            rules-said other name
-            ∙ rw (file-lines (exchanged p) (whole-back p h) n, same-who) (parts-apart (exchanged p) (whole-back p h) who);
-      }
+      -- what is made of each part, between that of the front and that of the rest
+      around : (f : List ℕ → List Said) → List·Permᴰ (f front ++ (flatten (map f ps) ++ f rest)) (f front ++ (flatten (map f qs) ++ f rest))
+      around f = Permᴰ·append-left (f front) (Permᴰ·append-right (f rest) (flatten-ordered f d))
 
--- Two neighbouring parts of whole groups may be exchanged: every name and path is answered alike.
+      lines-ordered : List·Permᴰ (linesSaid file) (linesSaid other)
+      lines-ordered = rw (file-lines mark ps m h, file-lines mark qs n (each-ordered Part d h)) (around said)
+
+      rules-ordered : (name : List ℕ) → List·Permᴰ (rulesSaid file name) (rulesSaid other name)
+      rules-ordered name =
+          let who : List ℕ = whose name (saidAll ps) in
+          let same-who : whose name (saidAll qs) ≡ who
+          = ap (λ (b : Bool). if b then name else everyone) (sym (any-ordered (λ s. agentNames name (s .role) (s .value)) (around said))) in
+          let before : rulesSaid file name ≡ rulesOf who front ++ (flatten (map (rulesOf who) ps) ++ rulesOf who rest)
+          = rules-said file name ∙ rw (file-lines mark ps m h) (all-apart who ps h) in
+          let after : rulesSaid other name ≡ rulesOf who front ++ (flatten (map (rulesOf who) qs) ++ rulesOf who rest)
+          = rules-said other name ∙ rw (file-lines mark qs n (each-ordered Part d h), same-who) (all-apart who qs (each-ordered Part d h)) in
+          rw (before, after) (around (rulesOf who))
+
+-- parts one behind the other are as long as they are together
+flatten-length : (ps : List (List ℕ)) → length (flatten ps) ≡ total length ps
+unfolding flatten total
+flatten-length [] = refl
+flatten-length (t ∷ ps) = length-append t (flatten ps) ∙ rw (flatten-length ps)
+
+same-length : (mark front rest : List ℕ) (ps qs : List (List ℕ)) → List·Permᴰ ps qs
+    → length (fileWith mark front ps rest) ≡ length (fileWith mark front qs rest)
+unfolding fileWith
+same-length mark front rest ps qs d =
+    let e : length (flatten ps) ≡ length (flatten qs) = flatten-length ps ∙ total-ordered length d ∙ sym (flatten-length qs) in
+    simp length-append (omega (arith, e))
+
+-- Parts of whole groups may be put in any other order: every name and path is answered alike.
+pub parts-in-order : (mark front rest : List ℕ) (ps qs : List (List ℕ)) → List·Permᴰ ps qs
+    → Pass (isMark mark (fileWith mark front ps rest) ∷ isMark mark (fileWith mark front qs rest) ∷ aroundTests front rest)
+    → Each (λ t. Pass (partTests t)) ps → (name path : List ℕ)
+    → Alike (decide 0 (fileWith mark front ps rest) name path) (decide 0 (fileWith mark front qs rest) name path)
+parts-in-order mark front rest ps qs d (m, (n, (e, (c, (o, t))))) tests name path =
+    let opened : opens (roles (said rest)) ≡ true = said-test opens rest o in
+    let closed : closes (roles (said front)) ≡ true = said-test closes front c in
+    let parts : Each Part ps = each-map (λ x. Pass (partTests x)) Part ps part tests in
+    alike (fileWith mark front ps rest) (fileWith mark front qs rest) name path (same-length mark front rest ps qs d)
+    (lines-ordered rest opened front e closed mark ps qs d parts m n)
+    (rules-ordered rest opened front e closed mark ps qs d parts m n name)
+
+-- a file of two parts
+pub two-parts : (p : Parts) → fileWith (p .mark) (p .front) (p .one ∷ p .two ∷ []) (p .rest) ≡ fileOf p
+unfolding fileWith fileOf flatten
+two-parts p =
+    ap (λ (l : List ℕ). p .mark ++ (p .front ++ l))
+    (append-assoc (p .one) (p .two ++ []) (p .rest) ∙ ap (λ (l : List ℕ). p .one ++ l) (append-assoc (p .two) [] (p .rest)))
+
+-- Two neighbouring ones may be exchanged.
 pub parts-exchanged : (p : Parts) → Pass (partsTests p) → (name path : List ℕ)
     → Alike (decide 0 (fileOf p) name path) (decide 0 (fileOf (exchanged p)) name path)
-parts-exchanged p (marked, (remarked, (front, (closed, (opened, (a, (b, (c, two)))))))) name path =
-    let whole : Whole p
-    = record {
-      front-ended = front;
-      front-closes = said-test closes (p .front) closed;
-      one = part (p .one) (a, (b, (c, tt)));
-      two = part (p .two) two;
-      rest-opens = said-test opens (p .rest) opened;
-    } in
-    alike (fileOf p) (fileOf (exchanged p)) name path (same-length p) (lines-swapped p whole marked remarked name)
-    (rules-swapped p whole marked remarked name)
+parts-exchanged p (m, (n, (e, (c, (o, (i, (j, (k, two)))))))) name path =
+    let before = two-parts p in
+    let after = two-parts (exchanged p) in
+    rw (before, after) at
+    (parts-in-order (p .mark) (p .front) (p .rest) (p .one ∷ p .two ∷ []) (p .two ∷ p .one ∷ []) (List·Permᴰ·swap refl refl)
+    (rw before m, (rw after n, (e, (c, (o, tt)))))
+    ((i, (j, (k, tt))), (two, tt))
+    name
+    path)

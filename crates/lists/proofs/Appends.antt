@@ -2,8 +2,7 @@
 use Prim.Native.Nat.{ℕ, _+_}
 use mathlib.Core.Path.{_≡_, refl, sym, ap}
 use mathlib.Core.Bool.{Bool, true, false, _||_, or-assoc, true≢false, false≢true}
-use mathlib.Core.Logic.{⊎-elim}
-use mathlib.Core.List.{List, [], _∷_, _++_, map, append-assoc, List·Memᴰ, List·Memᴰ·append-cases, Memᴰ·append-left, Memᴰ·append-right}
+use mathlib.Core.List.{List, [], _∷_, _++_, map, append-assoc}
 use native.Mathlib.Omega.{arith}
 use Rattle.lists.specs.Choice.{if_then_else_}
 use Rattle.lists.specs.Lists.{any, kept, upTo, from, total}
@@ -71,48 +70,3 @@ pub total-kept : {A : Type 0} (f : A → Bool) (g : A → ℕ) (l : List A) → 
 unfolding total kept
 total-kept f g [] = refl
 total-kept f g (x ∷ l) = split (f x) (λ e. rw (e, total-kept f g l)) (λ e. rw (e, total-kept f g l) (omega arith))
-
--- two neighbouring parts exchanged: nothing that a sum, a test of some element or a membership tells
-module _ {A : Type 0} (w x y z : List A) where
-  pub total-exchanged : (f : A → ℕ) → total f (w ++ (x ++ (y ++ z))) ≡ total f (w ++ (y ++ (x ++ z)))
-  total-exchanged f =
-      omega (
-        arith,
-        total-append f w (x ++ (y ++ z)),
-        total-append f x (y ++ z),
-        total-append f y z,
-        total-append f w (y ++ (x ++ z)),
-        total-append f y (x ++ z),
-        total-append f x z,
-      )
-
-  pub any-exchanged : (f : A → Bool) → any f (w ++ (x ++ (y ++ z))) ≡ any f (w ++ (y ++ (x ++ z)))
-  any-exchanged f =
-      rw (
-        any-append f w (x ++ (y ++ z)),
-        any-append f x (y ++ z),
-        any-append f y z,
-        any-append f w (y ++ (x ++ z)),
-        any-append f y (x ++ z),
-        any-append f x z,
-      )
-      (ap (λ (b : Bool). any f w || b) (or-left-comm (any f x) (any f y) (any f z)))
-    where
-      or-left-comm : (a b c : Bool) → (a || (b || c)) ≡ (b || (a || c))
-      or-left-comm true true c = refl
-      or-left-comm true false c = refl
-      or-left-comm false b c = refl
-
-  pub member-exchanged : (a : A) → List·Memᴰ a (w ++ (x ++ (y ++ z))) → List·Memᴰ a (w ++ (y ++ (x ++ z)))
-  member-exchanged a m =
-      ⊎-elim (λ (n : List·Memᴰ a w). Memᴰ·append-left (y ++ (x ++ z)) n)
-      (λ (n : List·Memᴰ a (x ++ (y ++ z))). Memᴰ·append-right w (behind n))
-      (List·Memᴰ·append-cases w m)
-    where
-      behind : List·Memᴰ a (x ++ (y ++ z)) → List·Memᴰ a (y ++ (x ++ z))
-      behind n =
-          ⊎-elim (λ (k : List·Memᴰ a x). Memᴰ·append-right y (Memᴰ·append-left z k))
-          (λ (k : List·Memᴰ a (y ++ z)).
-          ⊎-elim (λ (i : List·Memᴰ a y). Memᴰ·append-left (x ++ z) i) (λ (i : List·Memᴰ a z). Memᴰ·append-right y (Memᴰ·append-right x i))
-          (List·Memᴰ·append-cases y k))
-          (List·Memᴰ·append-cases x n)

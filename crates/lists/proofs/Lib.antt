@@ -4,6 +4,7 @@ pub mod Cuts
 pub mod Fronts
 pub mod Members
 pub mod Numbers
+pub mod Orders
 pub mod Parts
 pub mod Places
 pub mod Scans

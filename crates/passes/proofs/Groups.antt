@@ -13,9 +13,9 @@ use Rattle.protocol.specs.Lines.{Line, linesOf}
 use Rattle.protocol.specs.Readable.{readablePattern}
 use Rattle.protocol.specs.Kinds.{kindOf}
 use Rattle.protocol.specs.Entries.{Role, agent, rule, Entry, roleOf, groupAt, ruledAfter, entryOf, entriesFrom, entries}
-use Rattle.protocol.specs.Rules.{valueOf, namedBy, entryNames, someGroupNames, groupNames, ruleIn, rulesIn}
+use Rattle.protocol.specs.Rules.{valueOf, someGroupNames, groupNames, ruleIn, rulesIn}
 use Rattle.protocol.specs.Decision.{patternOf, readableRules}
-use Rattle.protocol.proofs.Groups.{group-some, appliesAfter, joinsAfter, rulesNamed, rules-named, file-grouped}
+use Rattle.protocol.proofs.Groups.{appliesAfter, joinsAfter, agentNames, rulesNamed, rules-named, some-named, file-grouped}
 use Rattle.hearing.specs.declared.Hearing.{Hearing}
 use Rattle.hearing.specs.Heard.{nothingHeard}
 use Rattle.passes.specs.Entries.{heardAs, ruleHeard, rulesHeard, lineValue, roleNames, lineNames}
@@ -49,26 +49,30 @@ module _ (file who : List ℕ) where
   pub heard-rules : rulesHeard file who nothingHeard (entries file) ≡ readableRules file (rulesIn (groupNames file (entries file) who) (entries file))
   heard-rules = heard-named nothingHeard (entries file) ∙ ap (readableRules file) (rules-named file who (entries file) (file-grouped file))
 
-  -- an entry, in front of the entries es, names who where its line does
-  entry-names : (above : ℕ) (ruled : Bool) (l : Line) (k : Kind) (es : List Entry) (ro : Option Role)
-      → any (entryNames file who) (entryOf (groupAt above ruled ro) l k ro ++ es) ≡ roleNames who (lineValue file (l .place) k) ro || any (entryNames file who) es
-  unfolding any entryOf namedBy
-  entry-names above ruled l k es none = refl
-  entry-names above ruled l k es (some agent) = rw (group-some above ruled)
-  entry-names above ruled l k es (some (rule side)) = refl
+  -- an agent line's entry that names who
+  abbrev naming : Entry → Bool
+  naming e = agentNames who (e .role) (valueOf file e)
 
-  lines-name : (above : ℕ) (ruled : Bool) (ls : List Line) → someGroupNames file (entriesFrom above ruled ls) who ≡ any (lineNames file who) ls
-  unfolding someGroupNames entriesFrom any
+  -- an entry, in front of the entries es, names who where its line does
+  entry-names : (g : ℕ) (l : Line) (k : Kind) (es : List Entry) (ro : Option Role)
+      → any naming (entryOf g l k ro ++ es) ≡ roleNames who (lineValue file (l .place) k) ro || any naming es
+  unfolding any entryOf
+  entry-names g l k es none = refl
+  entry-names g l k es (some agent) = refl
+  entry-names g l k es (some (rule side)) = refl
+
+  lines-name : (above : ℕ) (ruled : Bool) (ls : List Line) → any naming (entriesFrom above ruled ls) ≡ any (lineNames file who) ls
+  unfolding entriesFrom any
   lines-name above ruled [] = refl
   lines-name above ruled (l ∷ ls) =
       let k = kindOf (l .text) in
       let ro = roleOf k in
       let group = groupAt above ruled ro in
       let rest = ruledAfter ruled ro in
-      entry-names above ruled l k (entriesFrom group rest ls) ro
+      entry-names group l k (entriesFrom group rest ls) ro
       ∙ ap (λ (b : Bool). roleNames who (lineValue file (l .place) k) ro || b) (lines-name group rest ls)
 
   -- Some group names who exactly where some line does.
   pub some-line-names : someGroupNames file (entries file) who ≡ any (lineNames file who) (linesOf file)
   unfolding entries
-  some-line-names = lines-name 0 false (linesOf file)
+  some-line-names = some-named file who 0 false (entries file) (file-grouped file) ∙ lines-name 0 false (linesOf file)

@@ -108,12 +108,6 @@ ended-drop (suc k) [] h = refl
 ended-drop (suc k) (c ∷ []) h = rw (drop-nil k)
 ended-drop (suc k) (c ∷ d ∷ l) h = ended-drop k (d ∷ l) (sym (ended-behind c d l) ∙ h)
 
-pub ended-append : (front back : List ℕ) → ended front ≡ true → ended back ≡ true → ended (front ++ back) ≡ true
-ended-append [] back h k = k
-ended-append (c ∷ []) [] h k = h
-ended-append (c ∷ []) (d ∷ back) h k = ended-behind c d back ∙ k
-ended-append (c ∷ d ∷ l) back h k = ended-behind c d (l ++ back) ∙ ended-append (d ∷ l) back (sym (ended-behind c d l) ∙ h) k
-
 -- a text that is ended and not empty has an ending
 pub ended-some : (c : ℕ) (l : List ℕ) → ended (c ∷ l) ≡ true → any lineEnd (c ∷ l) ≡ true
 unfolding any

@@ -31,7 +31,7 @@ abbrev pub ValueInFile : List ℕ → Entry → Type 0
 ValueInFile file e = e .place .offset + e .length ≤ length file
 
 -- the octets l stand in the file at p
-lines-in : (file : List ℕ) (n : LineNumber) (p : Place) (k : ℕ) (l : List ℕ) → Occurs file (p .offset) l → Each (InFile file) (linesFrom n p k l)
+pub lines-in : (file : List ℕ) (n : LineNumber) (p : Place) (k : ℕ) (l : List ℕ) → Occurs file (p .offset) l → Each (InFile file) (linesFrom n p k l)
 unfolding linesFrom
 lines-in file n p k [] o = tt
 lines-in file n p zero (c ∷ l) o = (
