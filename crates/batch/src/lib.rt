@@ -1,5 +1,7 @@
 // Many paths against one file and one name, in one call.
 
+#![tactic(auto)]
+
 ghost use Rattle.std.specs.Prelude.{◌≡◌, ◌≤◌, length};
 ghost use Rattle.protocol.specs.Readable.{everyone};
 ghost use Rattle.protocol.specs.Classes.{class_table};

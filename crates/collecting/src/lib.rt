@@ -1,5 +1,7 @@
 // The readable rules of the groups that apply, kept as numbers in a lent table: five to a rule.
 
+#![tactic(auto)]
+
 ghost use Rattle.std.specs.Prelude.{◌≡◌, false, ◌&&◌, ◌||◌, List, [], ℕ, ◌+◌, ◌*◌, ◌≤◌, length};
 ghost use Rattle.lists.specs.Lists.{any};
 ghost use Rattle.protocol.specs.Octets.{line_end};
@@ -13,7 +15,7 @@ ghost use Rattle.collecting.specs.Left.{first_pass, Counted, IdlePassed, is_rule
 use protocol::{ClassTable, Kind, LineAnswer, Pattern, Place, Position, Rule, Side};
 
 // How far the lines are read: the next line, whether the rules of the group above it apply, and whether an agent line there would join that group.
-#[derive(Drop)]
+#[derive(Clone, Copy)]
 pub struct Pass {
     pub at: Position,
     pub applies: bool,
@@ -21,7 +23,7 @@ pub struct Pass {
 }
 
 // The rules in the table, and how far the lines are read for them.
-#[derive(Drop)]
+#[derive(Clone, Copy)]
 pub struct Collected {
     pub count: usize,
     pub pass: Pass,

@@ -1,6 +1,8 @@
 // What the rules that apply come to for a path, one after the other: the heaviest match of each side, and the pairs compared; and the decision
 // that these are, or a refused one. A rule is known by its line, side and place, and by its pattern's octets: no line's kind and no group is in it.
 
+#![tactic(auto)]
+
 ghost use Rattle.std.specs.Prelude.{◌≡◌, ◌+◌, ◌<◌, ◌^◌, length};
 ghost use Rattle.protocol.specs.Answers.{refused_decision};
 ghost use Rattle.considering.specs.Considering.{no_best, none_considered, added, matched, settled, considered, Room, decided_as, concluded};
@@ -8,7 +10,7 @@ ghost use Rattle.considering.specs.Considering.{no_best, none_considered, added,
 use protocol::{Decision, Dialect, LineNumber, Place, Rule, Side};
 
 // The heaviest rule of one side that matches: its weight, line, place and length. All zeros where there is none.
-#[derive(Drop)]
+#[derive(Clone, Copy)]
 pub struct Best {
     pub weight: usize,
     pub line: LineNumber,
@@ -17,7 +19,7 @@ pub struct Best {
 }
 
 // What the rules that were considered have come to: the heaviest match of each side, and the pairs compared.
-#[derive(Drop)]
+#[derive(Clone, Copy)]
 pub struct Considered {
     pub allow: Best,
     pub disallow: Best,

@@ -1,5 +1,7 @@
 // Normalising one octet of a text, or one escape, at a time.
 
+#![tactic(auto)]
+
 ghost use Rattle.std.specs.Prelude.{◌≡◌, true, ◌+◌, ◌≤◌, ◌<◌, length, drop, get_or};
 ghost use Rattle.std.proofs.lemmas.List.Edits.{sets};
 ghost use Rattle.protocol.specs.Octets.{hex};
@@ -10,7 +12,7 @@ ghost use Rattle.escapes.specs.Escapes.{kept, octets_of, Encoded, Escaped, Chang
 use protocol::{ClassTable, Sort};
 
 // What stands for one octet of a text, or for one escape: `first` alone or all three, and how many octets of the text it takes.
-#[derive(Drop)]
+#[derive(Clone, Copy)]
 pub struct Replacement {
     pub first: u8,
     pub second: u8,
@@ -20,7 +22,7 @@ pub struct Replacement {
 }
 
 // How many octets stand for one octet of a text, or for one escape, and how many octets of the text that takes.
-#[derive(Drop)]
+#[derive(Clone, Copy)]
 pub struct Measure {
     pub size: usize,
     pub taken: usize,

@@ -1,1 +1,4 @@
 // No code: specs/ says when two neighbouring groups of a file may be exchanged (M-108), and proofs/ that no answer changes by it.
+
+#![tactic(auto)]
+

@@ -1,5 +1,7 @@
 // The field of a line, and where its value begins.
 
+#![tactic(auto)]
+
 pub mod near; // near.rt: the same, sooner, of a line in a file that is written as most are
 
 ghost use Rattle.std.specs.Prelude.{◌≡◌, drop};
@@ -12,7 +14,7 @@ ghost use Rattle.fields.specs.Names.{name_length, row_of, begins_name, field_at}
 use protocol::{ClassTable, FIELDS, Place};
 
 // A field that the protocol knows, or any other; a line without a field has the other one.
-#[derive(Drop)]
+#[derive(Clone, Copy)]
 pub enum Field {
     Agent,
     Allow,
@@ -21,7 +23,7 @@ pub enum Field {
 }
 
 // The field of a line, and where its value begins: 0 where the field is the other one.
-#[derive(Drop)]
+#[derive(Clone, Copy)]
 pub struct Head {
     pub field: Field,
     pub value: Place,

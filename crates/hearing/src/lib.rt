@@ -1,6 +1,8 @@
 // Whose group this is, and how many lines are unread, after some agent and rule lines: of each it is known whether it is unreadable, and of an
 // agent line its value's octets.
 
+#![tactic(auto)]
+
 ghost use Rattle.std.specs.Prelude.{◌≡◌, ◌&&◌, ◌||◌, ◌+◌, ◌<◌, ◌^◌};
 ghost use Rattle.lists.specs.Choice.{one_if};
 ghost use Rattle.protocol.specs.Readable.{everyone, names};
@@ -10,7 +12,7 @@ ghost use Rattle.hearing.specs.Heard.{nothing_heard, whom, addressed, after_agen
 use protocol::{Audience, ClassTable};
 
 // After some agent and rule lines: the rules of the group above apply; an agent line here would join the group above; the unreadable lines.
-#[derive(Drop)]
+#[derive(Clone, Copy)]
 pub struct Hearing {
     pub applies: bool,
     pub joins: bool,

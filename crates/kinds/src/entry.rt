@@ -12,14 +12,14 @@ use fields::Field;
 use protocol::{ClassTable, Kind, Place};
 
 // A line, for a pass: its kind, and where what is examined of it ends, from where the next line is looked for.
-#[derive(Drop)]
+#[derive(Clone, Copy)]
 pub struct Entry {
     pub kind: Kind,
     pub end: Place,
 }
 
 // The octets of a value, and whether all of them are ordinary.
-#[derive(Drop)]
+#[derive(Clone, Copy)]
 struct Value {
     octets: usize,
     ordinary: bool,

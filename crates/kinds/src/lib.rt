@@ -1,5 +1,7 @@
 // The kind of a line.
 
+#![tactic(auto)]
+
 pub mod entry; // entry.rt: the kind of a line for a pass over a file
 pub mod line; // line.rt: the kind of a line
 pub mod answers; // answers.rt: the answer to a caller who asks for it, and its numbers

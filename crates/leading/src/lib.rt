@@ -1,6 +1,8 @@
 // The rule that leads for a path, after the rules of a table, one after the other. A rule that is walked is compared with the path only as far as
 // tells whether it matches: no count is told here.
 
+#![tactic(auto)]
+
 ghost use Rattle.std.specs.Prelude.{◌≡◌, false, ◌+◌, ◌≤◌, ◌<◌, ◌^◌, length};
 ghost use Rattle.walk.specs.Weights.{weighed};
 ghost use Rattle.tables.specs.Tables.{front_of, rule_at, rules_from};
@@ -9,7 +11,7 @@ ghost use Rattle.leading.specs.Leading.{outdoes, settled, led, led_all, whole_we
 use protocol::{Dialect, LineNumber};
 
 // The rule that leads so far: its weight, its side's number and its line. All zeros where none has matched.
-#[derive(Drop)]
+#[derive(Clone, Copy)]
 pub struct Leader {
     pub weight: usize,
     pub side: usize,

@@ -172,7 +172,7 @@ pub fn next_agent(s: &[u8], from: Place) -> Place
 }
 
 // What 64 octets hold: whether no agent or rule line begins behind them, and the line endings that they close.
-#[derive(Drop)]
+#[derive(Clone, Copy)]
 struct Seen {
     quiet: bool,
     lines: usize,

@@ -1,5 +1,7 @@
 // A list of paths: why the call is refused, and the memory lent for the answers before the first and after the last round.
 
+#![tactic(auto)]
+
 ghost use Rattle.std.specs.Prelude.{◌≡◌, ◌||◌, not, [], ◌∷◌, ◌≤◌, ltb, eqb, length};
 ghost use Rattle.protocol.specs.Refusals.{◌when◌, refusal, decrease, last_end, unknown_dialect, too_long, bad_name, bad_ends};
 ghost use Rattle.protocol.specs.Classes.{class_table};

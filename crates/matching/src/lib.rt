@@ -1,5 +1,7 @@
 // The answer to: match one pattern against one path.
 
+#![tactic(auto)]
+
 ghost use Rattle.std.specs.Prelude.{◌≡◌, ◌≤◌, length};
 ghost use Rattle.protocol.specs.Normal.{normal_path};
 ghost use Rattle.protocol.specs.Pattern.{shape_of};

@@ -1,5 +1,7 @@
 // Normalising a text: written to lent memory, one run of a pattern among them, or measured, or found to stay as it is; and a pattern's weight.
 
+#![tactic(auto)]
+
 ghost use Rattle.std.specs.Prelude.{◌≡◌, true, false, ◌+◌, ◌≤◌, ◌<◌, ◌^◌, length, take, drop, leb};
 ghost use Rattle.std.proofs.lemmas.List.Edits.{sets};
 ghost use Rattle.lists.specs.Lists.{all, any, up_to};
@@ -13,14 +15,14 @@ ghost use Rattle.normal.specs.Literal.{literal, not_literal};
 use protocol::Place;
 
 // How many octets there are, where they fit a room.
-#[derive(Drop)]
+#[derive(Clone, Copy)]
 struct Size {
     fits: bool,
     octets: usize,
 }
 
 // What a run of a pattern came to: so many octets in the scratch, or none, since they don't fit.
-#[derive(Drop)]
+#[derive(Clone, Copy)]
 pub enum Written {
     Octets(usize),
     NoRoom,

@@ -1,5 +1,7 @@
 // Answers as numbers: of a side, of a line's kind, and of its value's place and length.
 
+#![tactic(auto)]
+
 ghost use Rattle.std.specs.Prelude.{◌≡◌};
 ghost use Rattle.protocol.specs.declared.Side.{Side};
 ghost use Rattle.protocol.specs.declared.Kind.{Kind};

@@ -1,5 +1,7 @@
 // What sort an octet is, from a table of all 256 octets.
 
+#![tactic(auto)]
+
 ghost use Rattle.std.specs.Prelude.{◌≡◌, ◌<◌, ◌/◌, ◌%◌, eqb};
 ghost use Rattle.protocol.specs.Octets.{lower_case, hex_digit};
 ghost use Rattle.protocol.specs.Refusals.{outside_path};

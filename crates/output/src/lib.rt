@@ -1,5 +1,7 @@
 // What the program reads and writes: the parts of its input, and the line of its output.
 
+#![tactic(auto)]
+
 pub mod parts; // parts.rt: the lines of the input, one after the other
 mod before; // before.rt: texts and numbers, put in front of what stands behind them
 

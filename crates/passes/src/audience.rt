@@ -63,7 +63,7 @@ fn line_audience(classes: &ClassTable, file: &[u8], at: Place, name: &[u8]) -> A
 }
 
 // Whose groups apply; where the first line that names them begins, or the file's end; and whether it is known that no other line does.
-#[derive(Drop)]
+#[derive(Clone, Copy)]
 pub struct Chosen {
     pub audience: Audience,
     pub first: Place,

@@ -25,7 +25,7 @@ use protocol::{
 };
 
 // What the rules that apply come to, and the unreadable lines of the whole file.
-#[derive(Drop)]
+#[derive(Clone, Copy)]
 pub struct Gathered {
     pub considered: Considered,
     pub unread: usize,

@@ -1,5 +1,7 @@
 // A path: why it is refused, and normalising it into a lent buffer.
 
+#![tactic(auto)]
+
 ghost use Rattle.std.specs.Prelude.{◌≡◌};
 ghost use Rattle.lists.specs.Lists.{any};
 ghost use Rattle.protocol.specs.Refusals.{outside_path, path_rows, refusal, normalise_refusal};

@@ -1,6 +1,8 @@
 // Whether the value of an agent line is readable, and whom it names; whether the pattern of a rule line is readable; and whether a crawler's name is
 // refused.
 
+#![tactic(auto)]
+
 ghost use Rattle.std.specs.Prelude.{◌≡◌, ◌&&◌, not, [], length, drop};
 ghost use Rattle.lists.specs.Lists.{empty, all, up_to, same};
 ghost use Rattle.protocol.specs.Octets.{token};
@@ -12,7 +14,7 @@ ghost use Rattle.readable.specs.Due.{due_ranges, due_past, unusual};
 use protocol::{ClassTable, Place, Sort};
 
 // The octets that a character still lacks: `more` of them, the next from `low` to `high`, those behind it UTF8-tails.
-#[derive(Drop)]
+#[derive(Clone, Copy)]
 struct Due {
     low: u8,
     high: u8,

@@ -1,6 +1,8 @@
 // Every function that is exported to C. Each asks one question of the crates below, and returns one number of the answer. include/robots.h
 // says what a caller owes.
 
+#![tactic(auto)]
+
 ghost use Rattle.std.specs.Prelude.{◌≡◌, ◌↔◌, ◌+◌, ◌*◌, ◌≤◌, length};
 ghost use Rattle.lists.specs.Lists.{total};
 ghost use Rattle.protocol.specs.Normal.{normal_path};

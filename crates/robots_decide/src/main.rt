@@ -1,6 +1,8 @@
 // The program: reads standard input, and writes the one line that answers it. What the line says, for every input, is proved of
 // `decide::program::output`; no contract can say which octets a program reads and writes.
 
+#![tactic(auto)]
+
 ghost use Rattle.robots_decide.specs.Inputs.{Fits};
 
 use libc::{STDIN_FILENO, STDOUT_FILENO};

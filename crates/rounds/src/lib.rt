@@ -1,6 +1,8 @@
 // Rounds over the rules of a file, as many at a time as a table has room for: in a round each path of a list goes through them. Between the rounds
 // the memory lent for the answers holds the rule that leads for each path.
 
+#![tactic(auto)]
+
 ghost use Rattle.std.specs.Prelude.{◌≡◌, ◌+◌, ◌≤◌, length};
 ghost use Rattle.protocol.specs.Normal.{normal_path};
 ghost use Rattle.protocol.specs.Classes.{class_table};

@@ -1,5 +1,7 @@
 // One run of a walk, its octets normalised, over a normalised path. `before` is the number of pairs compared before.
 
+#![tactic(auto)]
+
 ghost use Rattle.std.specs.Prelude.{◌≡◌, true, ◌+◌, ◌≤◌, ◌<◌, ◌^◌, length, drop};
 ghost use Rattle.protocol.specs.Walk.{failed, placed, seek, final, first, next};
 

@@ -1,5 +1,7 @@
 // Parts of a text: where an octet stands, and where spaces and tabs at the ends stop.
 
+#![tactic(auto)]
+
 pub mod same; // same.rt: beginnings, ASCII case ignored
 
 ghost use Rattle.std.specs.Prelude.{◌≡◌, map, ◌≤◌, length, drop};

@@ -1,5 +1,7 @@
 // A try of a run, its octets normalised, at a place of a normalised path. `before` is the number of pairs compared before.
 
+#![tactic(auto)]
+
 ghost use Rattle.std.specs.Prelude.{◌≡◌, ◌+◌, ◌≤◌, ◌<◌, ◌^◌, length, eqb};
 ghost use Rattle.protocol.specs.Walk.{tried};
 ghost use Rattle.tries.specs.Tries.{tried_first};

@@ -1,6 +1,8 @@
 // The walk of a raw pattern: it is cut at its stars, and each run that is reached is normalised into lent scratch, which needs no more room
 // than the path.
 
+#![tactic(auto)]
+
 ghost use Rattle.std.specs.Prelude.{◌≡◌, true, false, ◌&&◌, ◌≤◌, ◌<◌, ◌^◌, length, eqb};
 ghost use Rattle.protocol.specs.declared.Dialect.{Dialect};
 ghost use Rattle.protocol.specs.Pattern.{shape_of, shape_in, weight};
@@ -13,7 +15,7 @@ use normal::Written;
 use protocol::{Dialect, Walked};
 
 // A pattern's weight where it matches, 0 where it doesn't, and the pairs compared.
-#[derive(Drop)]
+#[derive(Clone, Copy)]
 pub struct Weighed {
     pub weight: usize,
     pub compared: usize,

@@ -1,5 +1,7 @@
 // Eight octets at a time, as one number, the first octet the lowest: which of them are of a range, and the first that is.
 
+#![tactic(auto)]
+
 ghost use Rattle.std.specs.Prelude.{◌≡◌, false, map, ◌+◌, ◌≤◌, length, take, drop};
 ghost use Rattle.lists.specs.Lists.{up_to};
 ghost use Rattle.words.specs.Words.{octets_of, among, mark, marked};

@@ -12,5 +12,5 @@ returns : tie.Need-returns
 unfolding numbers_from up_to octets order upper lower_case class_of class_table
 returns c = (refl, table_tells)
 
-pub classes-spec : {M : Type 1} → statement M
-classes-spec = tie.close (tie.spec returns)
+pub classes_spec : {M : Type 1} → statement M
+classes_spec = tie.close (tie.spec returns)

@@ -15,12 +15,12 @@ use Rattle.octets.proofs.hex_digit.Tie as tie
 digits : List ℕ
 digits = octets "0123456789ABCDEF"
 
-array-read-result : tie.Need-array-read-result
-array-read-result c = search rules
+bounds-digits-n : tie.Need-bounds-digits-n
+bounds-digits-n c = search rules
 
 returns : tie.Need-returns
 unfolding digits octets numbers_from hex_digit
 returns c = agree_on (λ n. get_or digits n 0) hex_digit 0 16 refl c.args.n (omega arith) (omega arith)
 
-pub hex-digit-spec : {M : Type 1} → statement M
-hex-digit-spec = tie.close (tie.spec array-read-result returns)
+pub hex_digit_spec : {M : Type 1} → statement M
+hex_digit_spec = tie.close (tie.spec bounds-digits-n returns)

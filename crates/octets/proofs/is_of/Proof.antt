@@ -11,17 +11,17 @@ use Rattle.protocol.proofs.Classes.{sort_told}
 use Rattle.octets.proofs.is_of.Statement.{statement}
 use Rattle.octets.proofs.is_of.Tie as tie
 
-class-of-requires : tie.Need-class-of-requires
-class-of-requires c κs = search rules
+class_of-c-requires : tie.Need-class_of-c-requires
+class_of-c-requires c κs = search rules
 
-first-class-requires : tie.Need-first-class-requires
-first-class-requires c κs = tt
+first_class-requires : tie.Need-first_class-requires
+first_class-requires c κs = tt
 
-last-class-requires : tie.Need-last-class-requires
-last-class-requires c κs = tt
+last_class-requires : tie.Need-last_class-requires
+last_class-requires c κs = tt
 
 -- the class number, and the first of the sort's
-module _ (c : tie.After-first-class) where
+module _ (c : tie.After-first_class) where
   abbrev start : tie.Start
   start = c.before.before
 
@@ -34,16 +34,16 @@ module _ (c : tie.After-first-class) where
   sort-in : class_in start.args.sort class ≡ is_of start.args.sort start.args.x
   sort-in = sort_told start.args.x (omega arith) start.args.sort
 
-returns : tie.Need-returns
-returns c =
+returns-then-first_class-c : tie.Need-returns-then-first_class-c
+returns-then-first_class-c c =
     let f = c.before.before in
-    rw (f.before.class_of.ensures, c.last-class.ensures) (rw (le-leb (first f) (class f) (omega (arith, f.before.class_of.ensures, f.first-class.ensures))) at (sort-in f))
+    rw (f.before.class_of-c.ensures, c.last_class.ensures) (rw (le-leb (first f) (class f) (omega (arith, f.before.class_of-c.ensures, f.first_class.ensures))) at (sort-in f))
 
-returns-2 : tie.Need-returns-2
-returns-2 c =
+returns-else-first_class-c : tie.Need-returns-else-first_class-c
+returns-else-first_class-c c =
     let f = c.before in
-    let out : leb (first f) (class f) ≡ false = lt-leb (first f) (class f) (omega (arith, f.before.class_of.ensures, f.first-class.ensures)) in
-    rw (f.before.class_of.ensures, f.first-class.ensures, out) (rw out at (sort-in f))
+    let out : leb (first f) (class f) ≡ false = lt-leb (first f) (class f) (omega (arith, f.before.class_of-c.ensures, f.first_class.ensures)) in
+    rw (f.before.class_of-c.ensures, f.first_class.ensures, out) (rw out at (sort-in f))
 
-pub is-of-spec : {M : Type 1} → statement M
-is-of-spec = tie.close (tie.spec class-of-requires first-class-requires last-class-requires returns returns-2)
+pub is_of_spec : {M : Type 1} → statement M
+is_of_spec = tie.close (tie.spec class_of-c-requires first_class-requires last_class-requires returns-then-first_class-c returns-else-first_class-c)

@@ -5,11 +5,11 @@ use Rattle.words.proofs.Zeros.{first_of_eight}
 use Rattle.words.proofs.first_mark.Statement.{statement}
 use Rattle.words.proofs.first_mark.Tie as tie
 
-cast-result : tie.Need-overflow-cast-result
-cast-result c = omega (arith, trailing_le 64 c.args.m)
+overflow_cast-result : tie.Need-overflow_cast-result
+overflow_cast-result c = omega (arith, trailing_le 64 c.args.m)
 
 returns : tie.Need-returns
 returns c = first_of_eight c.args.m
 
-pub first-mark-spec : {M : Type 1} → statement M
-first-mark-spec = tie.close (tie.spec cast-result returns)
+pub first_mark_spec : {M : Type 1} → statement M
+first_mark_spec = tie.close (tie.spec overflow_cast-result returns)

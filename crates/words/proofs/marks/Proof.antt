@@ -6,17 +6,17 @@ use Rattle.words.proofs.Markings.{turned_marks}
 use Rattle.words.proofs.marks.Statement.{statement}
 use Rattle.words.proofs.marks.Tie as tie
 
-outside-requires : tie.Need-outside-requires
-outside-requires c κs = search rules
+outside-others-requires : tie.Need-outside-others-requires
+outside-others-requires c κs = search rules
+
+returns-then-inside : tie.Need-returns-then-inside
+unfolding repeated
+returns-then-inside c =
+    let a = c.before.before.args in
+    rw c.if-inside.true (turned_marks (within a.low a.high) 8 a.w c.before.outside-others.result c.before.outside-others.ensures)
 
 returns : tie.Need-returns
-unfolding repeated
-returns c =
-    let a = c.before.before.args in
-    rw c.if1.true (turned_marks (within a.low a.high) 8 a.w c.before.outside.result c.before.outside.ensures)
+returns c = rw c.if-inside.false c.before.outside-others.ensures
 
-returns-2 : tie.Need-returns-2
-returns-2 c = rw c.if1.false c.before.outside.ensures
-
-pub marks-spec : {M : Type 1} → statement M
-marks-spec = tie.close (tie.spec outside-requires returns returns-2)
+pub marks_spec : {M : Type 1} → statement M
+marks_spec = tie.close (tie.spec outside-others-requires returns-then-inside returns)

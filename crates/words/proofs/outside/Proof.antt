@@ -12,29 +12,29 @@ use Rattle.words.proofs.Markings.{outside_word}
 use Rattle.words.proofs.outside.Statement.{statement}
 use Rattle.words.proofs.outside.Tie as tie
 
-sub-not-under : tie.Need-overflow-sub-not-under
-sub-not-under c = search rules
+overflow_sub-not_under : tie.Need-overflow_sub-not_under
+overflow_sub-not_under c = search rules
 
-cast-not-under : tie.Need-overflow-cast-not-under
-cast-not-under c = search rules
+overflow_cast-not_under : tie.Need-overflow_cast-not_under
+overflow_cast-not_under c = search rules
 
-mul-not-under : tie.Need-overflow-mul-not-under
-mul-not-under c = search rules
+overflow_mul-not_under : tie.Need-overflow_mul-not_under
+overflow_mul-not_under c = search rules
 
-add-not-under : tie.Need-overflow-add-not-under
-add-not-under c = omega (arith, and_le_r c.args.w 0x7F7F_7F7F_7F7F_7F7F)
+overflow_add-not_under : tie.Need-overflow_add-not_under
+overflow_add-not_under c = omega (arith, and_le_r c.args.w 0x7F7F_7F7F_7F7F_7F7F)
 
-sub-over : tie.Need-overflow-sub-over
-sub-over c = search rules
+overflow_sub-over : tie.Need-overflow_sub-over
+overflow_sub-over c = search rules
 
-cast-over : tie.Need-overflow-cast-over
-cast-over c = search rules
+overflow_cast-over : tie.Need-overflow_cast-over
+overflow_cast-over c = search rules
 
-mul-over : tie.Need-overflow-mul-over
-mul-over c = search rules
+overflow_mul-over : tie.Need-overflow_mul-over
+overflow_mul-over c = search rules
 
-add-over : tie.Need-overflow-add-over
-add-over c = omega (arith, and_le_r c.args.w 0x7F7F_7F7F_7F7F_7F7F)
+overflow_add-over : tie.Need-overflow_add-over
+overflow_add-over c = omega (arith, and_le_r c.args.w 0x7F7F_7F7F_7F7F_7F7F)
 
 -- what is added to each octet
 module _ (c : tie.Start) (a b : ℕ) (under : a ≡ repeated (128 - c.args.low) 8) (over : b ≡ repeated (127 - c.args.high) 8) where
@@ -51,16 +51,5 @@ returns : tie.Need-returns
 unfolding repeated
 returns c = whole c _ _ (omega arith) (omega arith)
 
-pub outside-spec : {M : Type 1} → statement M
-outside-spec =
-    tie.close
-    (tie.spec
-    sub-not-under
-    cast-not-under
-    mul-not-under
-    add-not-under
-    sub-over
-    cast-over
-    mul-over
-    add-over
-    returns)
+pub outside_spec : {M : Type 1} → statement M
+outside_spec = tie.close (tie.spec overflow_sub-not_under overflow_cast-not_under overflow_mul-not_under overflow_add-not_under overflow_sub-over overflow_cast-over overflow_mul-over overflow_add-over returns)
