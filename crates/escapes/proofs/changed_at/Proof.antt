@@ -10,61 +10,49 @@ use Rattle.escapes.proofs.Forms.{escape_inside, escape_digits, changed_escape, c
 use Rattle.escapes.proofs.changed_at.Statement.{statement}
 use Rattle.escapes.proofs.changed_at.Tie as tie
 
-is-escape-at-requires : tie.Need-is-escape-at-requires
-is-escape-at-requires c κs = search rules
+is_escape_at-requires : tie.Need-is_escape_at-requires
+is_escape_at-requires c κs = search rules
 
 -- where an escape stands
-module _ (c : tie.Then1) where
+module _ (c : tie.Then-is_escape_at) where
   abbrev entry : tie.Start
   entry = c.before.before.before
 
   escapes : is_escape (get_or entry.args.s.now entry.args.at 0) (drop (entry.args.at + 1) entry.args.s.now) ≡ true
-  escapes = sym c.before.is-escape-at.ensures ∙ c.if1.true
+  escapes = sym c.before.is_escape_at.ensures ∙ c.if-is_escape_at.true
 
   inside : entry.args.at + 2 < length entry.args.s.now
   inside = escape_inside entry.args.s.now entry.args.at escapes
 
-add-escape-of : tie.Need-overflow-add-escape-of
-add-escape-of c = search rules
+overflow_add-at : tie.Need-overflow_add-at
+overflow_add-at c = search rules
 
-shared-slice-read-escape-of : tie.Need-shared-slice-read-escape-of
-shared-slice-read-escape-of c = omega (arith, inside c.before)
+bounds-s-at : tie.Need-bounds-s-at
+bounds-s-at c = omega (arith, inside c.before)
 
-add-escape-of-2 : tie.Need-overflow-add-escape-of-2
-add-escape-of-2 c = search rules
+overflow_add-at-then-is_escape_at : tie.Need-overflow_add-at-then-is_escape_at
+overflow_add-at-then-is_escape_at c = search rules
 
-shared-slice-read-escape-of-2 : tie.Need-shared-slice-read-escape-of-2
-shared-slice-read-escape-of-2 c = inside c.before.before
+bounds-s-at-then-is_escape_at : tie.Need-bounds-s-at-then-is_escape_at
+bounds-s-at-then-is_escape_at c = inside c.before.before
 
-escape-of-requires : tie.Need-escape-of-requires
-escape-of-requires c κs =
+escape_of-requires : tie.Need-escape_of-requires
+escape_of-requires c κs =
     let t = c.before.before in search (rules, escape_digits (entry t).args.s.now (entry t).args.at (escapes t))
 
-returns : tie.Need-returns
-returns c =
-    let t = c.before.before.before in changed_escape (entry t).args.s.now (entry t).args.at (escapes t) _ c.escape-of.ensures
+returns-then-is_escape_at : tie.Need-returns-then-is_escape_at
+returns-then-is_escape_at c =
+    let t = c.before.before.before in changed_escape (entry t).args.s.now (entry t).args.at (escapes t) _ c.escape_of.ensures
 
-shared-slice-read-encode : tie.Need-shared-slice-read-encode
-shared-slice-read-encode c = search rules
+bounds-s-at-2 : tie.Need-bounds-s-at-2
+bounds-s-at-2 c = search rules
 
 encode-requires : tie.Need-encode-requires
 encode-requires c κs = search rules
 
-returns-2 : tie.Need-returns-2
-returns-2 c =
-    let e = c.before.before in changed_alone _ _ _ (sym e.before.is-escape-at.ensures ∙ e.if1.false) c.encode.ensures
+returns : tie.Need-returns
+returns c =
+    let e = c.before.before in changed_alone _ _ _ (sym e.before.is_escape_at.ensures ∙ e.if-is_escape_at.false) c.encode.ensures
 
-pub changed-at-spec : {M : Type 1} → statement M
-changed-at-spec =
-    tie.close
-    (tie.spec
-    is-escape-at-requires
-    add-escape-of
-    shared-slice-read-escape-of
-    add-escape-of-2
-    shared-slice-read-escape-of-2
-    escape-of-requires
-    returns
-    shared-slice-read-encode
-    encode-requires
-    returns-2)
+pub changed_at_spec : {M : Type 1} → statement M
+changed_at_spec = tie.close (tie.spec is_escape_at-requires overflow_add-at bounds-s-at overflow_add-at-then-is_escape_at bounds-s-at-then-is_escape_at escape_of-requires returns-then-is_escape_at bounds-s-at-2 encode-requires returns)

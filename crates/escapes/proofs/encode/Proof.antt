@@ -5,15 +5,15 @@ use Rattle.protocol.specs.Normal.{encoded}
 use Rattle.escapes.proofs.encode.Statement.{statement}
 use Rattle.escapes.proofs.encode.Tie as tie
 
-high-digit-requires : tie.Need-high-digit-requires
-high-digit-requires c κs = search rules
+high_digit-requires : tie.Need-high_digit-requires
+high_digit-requires c κs = search rules
 
-low-digit-requires : tie.Need-low-digit-requires
-low-digit-requires c κs = search rules
+low_digit-requires : tie.Need-low_digit-requires
+low_digit-requires c κs = search rules
 
 returns : tie.Need-returns
 unfolding encoded
 returns c = record { octets = rw (c.before.high_digit.ensures, c.low_digit.ensures); taken = refl }
 
-pub encode-spec : {M : Type 1} → statement M
-encode-spec = tie.close (tie.spec high-digit-requires low-digit-requires returns)
+pub encode_spec : {M : Type 1} → statement M
+encode_spec = tie.close (tie.spec high_digit-requires low_digit-requires returns)

@@ -8,29 +8,29 @@ use Rattle.escapes.proofs.Forms.{escape_kept}
 use Rattle.escapes.proofs.escape_of.Statement.{statement}
 use Rattle.escapes.proofs.escape_of.Tie as tie
 
-octet-meant-requires : tie.Need-octet-meant-requires
-octet-meant-requires c κs = search rules
+octet_meant-x-requires : tie.Need-octet_meant-x-requires
+octet_meant-x-requires c κs = search rules
 
-is-of-requires : tie.Need-is-of-requires
-is-of-requires c κs = search rules
+is_of-requires : tie.Need-is_of-requires
+is_of-requires c κs = search rules
 
-returns : tie.Need-returns
+returns-then-is_of : tie.Need-returns-then-is_of
 unfolding escape
-returns c =
-    let x = c.before.before.octet-meant in
-    let u : unreserved x.result ≡ true = sym c.before.is-of.ensures ∙ c.if1.true in
+returns-then-is_of c =
+    let x = c.before.before.octet_meant-x in
+    let u : unreserved x.result ≡ true = sym c.before.is_of.ensures ∙ c.if-is_of.true in
     rw (← x.ensures, u) (record { octets = refl; taken = refl })
 
-encode-requires : tie.Need-encode-requires
-encode-requires c κs = search rules
+encode-p-requires : tie.Need-encode-p-requires
+encode-p-requires c κs = search rules
 
-returns-2 : tie.Need-returns-2
-returns-2 c =
+returns : tie.Need-returns
+returns c =
     let t = c.before.before in
     let s = t.before.before in
-    let x = t.before.octet-meant in
-    let u : unreserved x.result ≡ false = sym t.is-of.ensures ∙ c.before.if1.false in
-    escape_kept s.args.d s.args.e c.encode.result s.requires.1 s.requires.2 (rw x.ensures at u) (rw x.ensures at c.encode.ensures)
+    let x = t.before.octet_meant-x in
+    let u : unreserved x.result ≡ false = sym t.is_of.ensures ∙ c.before.if-is_of.false in
+    escape_kept s.args.d s.args.e c.encode-p.result s.requires.1 s.requires.2 (rw x.ensures at u) (rw x.ensures at c.encode-p.ensures)
 
-pub escape-of-spec : {M : Type 1} → statement M
-escape-of-spec = tie.close (tie.spec octet-meant-requires is-of-requires returns encode-requires returns-2)
+pub escape_of_spec : {M : Type 1} → statement M
+escape_of_spec = tie.close (tie.spec octet_meant-x-requires is_of-requires returns-then-is_of encode-p-requires returns)

@@ -5,22 +5,21 @@ use Rattle.protocol.specs.Normal.{escape}
 use Rattle.escapes.proofs.escape_size.Statement.{statement}
 use Rattle.escapes.proofs.escape_size.Tie as tie
 
-octet-meant-requires : tie.Need-octet-meant-requires
-octet-meant-requires c κs = search rules
+octet_meant-requires : tie.Need-octet_meant-requires
+octet_meant-requires c κs = search rules
 
-is-of-requires : tie.Need-is-of-requires
-is-of-requires c κs = search rules
+is_of-requires : tie.Need-is_of-requires
+is_of-requires c κs = search rules
 
-returns : tie.Need-returns
+returns-then-is_of : tie.Need-returns-then-is_of
 unfolding escape
-returns c =
-    let u = sym c.before.is-of.ensures ∙ c.if1.true in rw (← c.before.before.octet-meant.ensures, u)
+returns-then-is_of c =
+    let u = sym c.before.is_of.ensures ∙ c.if-is_of.true in rw (← c.before.before.octet_meant.ensures, u)
 
-returns-2 : tie.Need-returns-2
+returns-else-is_of : tie.Need-returns-else-is_of
 unfolding escape
-returns-2 c =
-    let u = sym c.before.is-of.ensures ∙ c.if1.false in rw (← c.before.before.octet-meant.ensures, u)
+returns-else-is_of c =
+    let u = sym c.before.is_of.ensures ∙ c.if-is_of.false in rw (← c.before.before.octet_meant.ensures, u)
 
-pub escape-size-spec : {M : Type 1} → statement M
-escape-size-spec =
-    tie.close (tie.spec octet-meant-requires is-of-requires returns returns-2)
+pub escape_size_spec : {M : Type 1} → statement M
+escape_size_spec = tie.close (tie.spec octet_meant-requires is_of-requires returns-then-is_of returns-else-is_of)

@@ -13,69 +13,55 @@ use Rattle.escapes.proofs.Forms.{no_digits, escape_test}
 use Rattle.escapes.proofs.is_escape_at.Statement.{statement}
 use Rattle.escapes.proofs.is_escape_at.Tie as tie
 
-shared-slice-read-if1 : tie.Need-shared-slice-read-if1
-shared-slice-read-if1 c = search rules
+bounds-s-at : tie.Need-bounds-s-at
+bounds-s-at c = search rules
 
-returns : tie.Need-returns
-returns c = sym (no_percent _ _ c.if1.true)
+returns-then-s-at-ne37 : tie.Need-returns-then-s-at-ne37
+returns-then-s-at-ne37 c = sym (no_percent _ _ c.if-s-at-ne37.true)
 
-sub-if2 : tie.Need-overflow-sub-if2
-sub-if2 c = search rules
+overflow_sub-s : tie.Need-overflow_sub-s
+overflow_sub-s c = search rules
 
-abbrev entry : tie.Else1 → tie.Start
+abbrev entry : tie.Else-s-at-ne37 → tie.Start
 entry c = c.before.before.before
 
-returns-2 : tie.Need-returns-2
-returns-2 c =
+returns-then-s-at-lt3 : tie.Need-returns-then-s-at-lt3
+returns-then-s-at-lt3 c =
     let a = (entry c.before).args in
     sym (no_digits (get_or a.s.now a.at 0) (drop (a.at + 1) a.s.now) (omega (arith, length-drop (a.at + 1) a.s.now)))
 
-add-is-of : tie.Need-overflow-add-is-of
-add-is-of c = search rules
+overflow_add-at : tie.Need-overflow_add-at
+overflow_add-at c = search rules
 
-shared-slice-read-is-of : tie.Need-shared-slice-read-is-of
-shared-slice-read-is-of c = search rules
+bounds-s-at-2 : tie.Need-bounds-s-at-2
+bounds-s-at-2 c = search rules
 
-is-of-requires : tie.Need-is-of-requires
-is-of-requires c κs = search rules
+is_of-requires : tie.Need-is_of-requires
+is_of-requires c κs = search rules
 
 -- "%" stands there, and two octets behind it: they decide
-decided : (c : tie.After-is-of) (b : Bool) → c.is-of.result ≡ b
+decided : (c : tie.After-is_of) (b : Bool) → c.is_of.result ≡ b
     → let a = (entry c.before.before.before).args in
     is_escape (get_or a.s.now a.at 0) (drop (a.at + 1) a.s.now) ≡ (b && hex (get_or a.s.now (a.at + 2) 0))
 decided c b e =
     let l = c.before.before.before in
-    escape_test (entry l).args.s.now (entry l).args.at (omega arith) _ ∙ rw (eq-eqb _ _ l.if1.false, sym c.is-of.ensures ∙ e)
+    escape_test (entry l).args.s.now (entry l).args.at (omega arith) _ ∙ rw (eq-eqb _ _ l.if-s-at-ne37.false, sym c.is_of.ensures ∙ e)
 
-returns-3 : tie.Need-returns-3
-returns-3 c = sym (decided c.before false (not-true _ c.if3.true))
+returns-then-not-is_of : tie.Need-returns-then-not-is_of
+returns-then-not-is_of c = sym (decided c.before false c.if-not-is_of.true)
 
-add-is-of-2 : tie.Need-overflow-add-is-of-2
-add-is-of-2 c = search rules
+overflow_add-at-2 : tie.Need-overflow_add-at-2
+overflow_add-at-2 c = search rules
 
-shared-slice-read-is-of-2 : tie.Need-shared-slice-read-is-of-2
-shared-slice-read-is-of-2 c = search rules
+bounds-s-at-3 : tie.Need-bounds-s-at-3
+bounds-s-at-3 c = search rules
 
-is-of-requires-2 : tie.Need-is-of-requires-2
-is-of-requires-2 c κs = search rules
+is_of-requires-2 : tie.Need-is_of-requires-2
+is_of-requires-2 c κs = search rules
 
-returns-4 : tie.Need-returns-4
-returns-4 c =
-    let l = c.before.before in c.is-of2.ensures ∙ sym (decided l.before true (not-false _ l.if3.false))
+returns : tie.Need-returns
+returns c =
+    let l = c.before.before in c.is_of-2.ensures ∙ sym (decided l.before true l.if-not-is_of.false)
 
-pub is-escape-at-spec : {M : Type 1} → statement M
-is-escape-at-spec =
-    tie.close
-    (tie.spec
-    shared-slice-read-if1
-    returns
-    sub-if2
-    returns-2
-    add-is-of
-    shared-slice-read-is-of
-    is-of-requires
-    returns-3
-    add-is-of-2
-    shared-slice-read-is-of-2
-    is-of-requires-2
-    returns-4)
+pub is_escape_at_spec : {M : Type 1} → statement M
+is_escape_at_spec = tie.close (tie.spec bounds-s-at returns-then-s-at-ne37 overflow_sub-s returns-then-s-at-lt3 overflow_add-at bounds-s-at-2 is_of-requires returns-then-not-is_of overflow_add-at-2 bounds-s-at-3 is_of-requires-2 returns)

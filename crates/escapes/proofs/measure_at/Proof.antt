@@ -10,66 +10,53 @@ use Rattle.escapes.proofs.Forms.{escape_inside, escape_digits, measure_kept, mea
 use Rattle.escapes.proofs.measure_at.Statement.{statement}
 use Rattle.escapes.proofs.measure_at.Tie as tie
 
-shared-slice-read-is-kept : tie.Need-shared-slice-read-is-kept
-shared-slice-read-is-kept c = search rules
+bounds-s-at : tie.Need-bounds-s-at
+bounds-s-at c = search rules
 
-is-kept-requires : tie.Need-is-kept-requires
-is-kept-requires c κs = search rules
+is_kept-requires : tie.Need-is_kept-requires
+is_kept-requires c κs = search rules
 
-returns : tie.Need-returns
-returns c = measure_kept _ _ _ (sym c.before.is-kept.ensures ∙ c.if1.true)
+returns-then-is_kept : tie.Need-returns-then-is_kept
+returns-then-is_kept c = measure_kept _ _ _ (sym c.before.is_kept.ensures ∙ c.if-is_kept.true)
 
-is-escape-at-requires : tie.Need-is-escape-at-requires
-is-escape-at-requires c κs = search rules
+is_escape_at-requires : tie.Need-is_escape_at-requires
+is_escape_at-requires c κs = search rules
 
 -- where an escape stands
-module _ (c : tie.Then2) where
+module _ (c : tie.Then-is_escape_at) where
   abbrev entry : tie.Start
   entry = c.before.before.before.before.before.before
 
   escapes : is_escape (get_or entry.args.s.now entry.args.at 0) (drop (entry.args.at + 1) entry.args.s.now) ≡ true
-  escapes = sym c.before.is-escape-at.ensures ∙ c.if2.true
+  escapes = sym c.before.is_escape_at.ensures ∙ c.if-is_escape_at.true
 
   inside : entry.args.at + 2 < length entry.args.s.now
   inside = escape_inside entry.args.s.now entry.args.at escapes
 
-add-escape-size : tie.Need-overflow-add-escape-size
-add-escape-size c = search rules
+overflow_add-at : tie.Need-overflow_add-at
+overflow_add-at c = search rules
 
-shared-slice-read-escape-size : tie.Need-shared-slice-read-escape-size
-shared-slice-read-escape-size c = omega (arith, inside c.before)
+bounds-s-at-then-is_escape_at : tie.Need-bounds-s-at-then-is_escape_at
+bounds-s-at-then-is_escape_at c = omega (arith, inside c.before)
 
-add-escape-size-2 : tie.Need-overflow-add-escape-size-2
-add-escape-size-2 c = search rules
+overflow_add-at-then-is_escape_at : tie.Need-overflow_add-at-then-is_escape_at
+overflow_add-at-then-is_escape_at c = search rules
 
-shared-slice-read-escape-size-2 : tie.Need-shared-slice-read-escape-size-2
-shared-slice-read-escape-size-2 c = inside c.before.before
+bounds-s-at-then-is_escape_at-2 : tie.Need-bounds-s-at-then-is_escape_at-2
+bounds-s-at-then-is_escape_at-2 c = inside c.before.before
 
-escape-size-requires : tie.Need-escape-size-requires
-escape-size-requires c κs =
+escape_size-requires : tie.Need-escape_size-requires
+escape_size-requires c κs =
     let t = c.before.before in search (rules, escape_digits (entry t).args.s.now (entry t).args.at (escapes t))
 
-returns-2 : tie.Need-returns-2
-returns-2 c =
-    let t = c.before.before.before in measure_escape _ (entry t).args.s.now (entry t).args.at _ (escapes t) c.escape-size.ensures
+returns-then-is_escape_at : tie.Need-returns-then-is_escape_at
+returns-then-is_escape_at c =
+    let t = c.before.before.before in measure_escape _ (entry t).args.s.now (entry t).args.at _ (escapes t) c.escape_size.ensures
 
-returns-3 : tie.Need-returns-3
-returns-3 c =
+returns : tie.Need-returns
+returns c =
     let e = c.before in
-    measure_alone _ _ _ (sym e.before.before.is-kept.ensures ∙ e.before.if1.false) (sym e.is-escape-at.ensures ∙ c.if2.false)
+    measure_alone _ _ _ (sym e.before.before.is_kept.ensures ∙ e.before.if-is_kept.false) (sym e.is_escape_at.ensures ∙ c.if-is_escape_at.false)
 
-pub measure-at-spec : {M : Type 1} → statement M
-measure-at-spec =
-    tie.close
-    (tie.spec
-    shared-slice-read-is-kept
-    is-kept-requires
-    returns
-    is-escape-at-requires
-    add-escape-size
-    shared-slice-read-escape-size
-    add-escape-size-2
-    shared-slice-read-escape-size-2
-    escape-size-requires
-    returns-2
-    returns-3)
+pub measure_at_spec : {M : Type 1} → statement M
+measure_at_spec = tie.close (tie.spec bounds-s-at is_kept-requires returns-then-is_kept is_escape_at-requires overflow_add-at bounds-s-at-then-is_escape_at overflow_add-at-then-is_escape_at bounds-s-at-then-is_escape_at-2 escape_size-requires returns-then-is_escape_at returns)

@@ -3,55 +3,41 @@ use borrow.Author.Rules.{rules}
 use Rattle.numbers.proofs.kind_number.Statement.{statement}
 use Rattle.numbers.proofs.kind_number.Tie as tie
 
-enum_told : tie.Need-enum-told
-enum_told c = search rules
+enum_told-1 : tie.Need-enum_told-1
+enum_told-1 c = search rules
 
-enum-told-2 : tie.Need-enum-told-2
-enum-told-2 c = search rules
+enum_told-in-Noise : tie.Need-enum_told-in-Noise
+enum_told-in-Noise c = search rules
 
-enum-told-3 : tie.Need-enum-told-3
-enum-told-3 c = search rules
+enum_told-in-Other : tie.Need-enum_told-in-Other
+enum_told-in-Other c = search rules
 
-enum-known-kind : tie.Need-enum-known-kind
-enum-known-kind c = search rules
+enum_known-kind : tie.Need-enum_known-kind
+enum_known-kind c = search rules
 
-agent-number-requires : tie.Need-agent-number-requires
-agent-number-requires c κs = search rules
+agent_number-requires : tie.Need-agent_number-requires
+agent_number-requires c κs = search rules
 
-enum-known-kind-2 : tie.Need-enum-known-kind-2
-enum-known-kind-2 c = search rules
+enum_known-kind-in-Rule-1 : tie.Need-enum_known-kind-in-Rule-1
+enum_known-kind-in-Rule-1 c = search rules
 
-rule-number-requires : tie.Need-rule-number-requires
-rule-number-requires c κs = search rules
+rule_number-requires : tie.Need-rule_number-requires
+rule_number-requires c κs = search rules
 
-returns : tie.Need-returns
-returns c = search rules
+returns-in-Blank : tie.Need-returns-in-Blank
+returns-in-Blank c = search rules
 
-returns-2 : tie.Need-returns-2
-returns-2 c = search rules
+returns-in-Noise : tie.Need-returns-in-Noise
+returns-in-Noise c = search rules
 
-returns-3 : tie.Need-returns-3
-returns-3 c = search rules
+returns-in-Other : tie.Need-returns-in-Other
+returns-in-Other c = search rules
 
-returns-4 : tie.Need-returns-4
-returns-4 c = search rules
+returns-in-Agent : tie.Need-returns-in-Agent
+returns-in-Agent c = search rules
 
-returns-5 : tie.Need-returns-5
-returns-5 c = cc
+returns-in-Rule : tie.Need-returns-in-Rule
+returns-in-Rule c = cc
 
-pub kind-number-spec : {M : Type 1} → statement M
-kind-number-spec =
-    tie.close
-    (tie.spec
-    enum_told
-    enum-told-2
-    enum-told-3
-    enum-known-kind
-    agent-number-requires
-    enum-known-kind-2
-    rule-number-requires
-    returns
-    returns-2
-    returns-3
-    returns-4
-    returns-5)
+pub kind_number_spec : {M : Type 1} → statement M
+kind_number_spec = tie.close (tie.spec enum_told-1 enum_told-in-Noise enum_told-in-Other enum_known-kind agent_number-requires enum_known-kind-in-Rule-1 rule_number-requires returns-in-Blank returns-in-Noise returns-in-Other returns-in-Agent returns-in-Rule)
