@@ -14,49 +14,40 @@ use Rattle.runs.proofs.first_run.Tie as tie
 fail-requires : tie.Need-fail-requires
 fail-requires c κs = search rules
 
-returns : tie.Need-returns
-returns c =
+returns-then-path-run : tie.Need-returns-then-path-run
+returns-then-path-run c =
     let a = c.before.before.before.before.args in
     c.fail.ensures ∙ sym (first_short a.run.now a.path.now a.last (omega arith))
 
-fail-requires-2 : tie.Need-fail-requires-2
-fail-requires-2 c κs = search rules
+fail-requires-then-run-path : tie.Need-fail-requires-then-run-path
+fail-requires-then-run-path c κs = search rules
 
-returns-2 : tie.Need-returns-2
-returns-2 c =
+returns-then-run-path : tie.Need-returns-then-run-path
+returns-then-run-path c =
     let a = c.before.before.before.before.before.before.args in
-    c.fail2.ensures
-    ∙ sym (ap (λ (b : Bool). first b a.run.now a.path.now) c.before.before.if2.true ∙ first_out a.run.now a.path.now (λ e. omega arith))
+    c.fail-then-run-path.ensures
+    ∙ sym (ap (λ (b : Bool). first b a.run.now a.path.now) c.before.before.if-last.true ∙ first_out a.run.now a.path.now (λ e. omega arith))
 
 -- past the tests the run is tried
-module _ (c : tie.Joined2) where
+module _ (c : tie.Joined-last) where
   abbrev entry : tie.Start
   entry = c.before.before.before.before
 
   whole : first entry.args.last entry.args.run.now entry.args.path.now ≡ placed (length entry.args.run.now) 0 (tried entry.args.run.now entry.args.path.now 0)
   whole =
       first_in entry.args.run.now entry.args.path.now entry.args.last (omega arith)
-      (⊎_elim (λ w. λ _. w.1.left) (λ w. λ e. absurd (true≢false (sym e ∙ w.left))) c.if2.branch)
+      (⊎_elim (λ w. λ _. w.1.left) (λ w. λ e. absurd (true≢false (sym e ∙ w.left))) c.if-last.branch)
 
-try-run-requires : tie.Need-try-run-requires
-try-run-requires c κs = (omega arith, omega (arith, tried_most (entry c).args.run.now (entry c).args.path.now 0))
+try_run-t-requires : tie.Need-try_run-t-requires
+try_run-t-requires c κs = (omega arith, omega (arith, tried_most (entry c).args.run.now (entry c).args.path.now 0))
 
-place-run-requires : tie.Need-place-run-requires
-place-run-requires c κs = search rules
+place_run-requires : tie.Need-place_run-requires
+place_run-requires c κs = search rules
 
-returns-3 : tie.Need-returns-3
-returns-3 c =
+returns : tie.Need-returns
+returns c =
     let t = c.before.before in
-    c.place-run.ensures ∙ ap (placed (length (entry t).args.run.now) 0) c.before.try-run.ensures ∙ sym (whole t)
+    c.place_run.ensures ∙ ap (placed (length (entry t).args.run.now) 0) c.before.try_run-t.ensures ∙ sym (whole t)
 
-pub first-run-spec : {M : Type 1} → statement M
-first-run-spec =
-    tie.close
-    (tie.spec
-    fail-requires
-    returns
-    fail-requires-2
-    returns-2
-    try-run-requires
-    place-run-requires
-    returns-3)
+pub first_run_spec : {M : Type 1} → statement M
+first_run_spec = tie.close (tie.spec fail-requires returns-then-path-run fail-requires-then-run-path returns-then-run-path try_run-t-requires place_run-requires returns)

@@ -16,62 +16,49 @@ use Rattle.runs.proofs.last_run.Tie as tie
 fail-requires : tie.Need-fail-requires
 fail-requires c κs = search rules
 
-returns : tie.Need-returns
-returns c =
+returns-then-path-run : tie.Need-returns-then-path-run
+returns-then-path-run c =
     let a = c.before.before.before.before.args in
     c.fail.ensures ∙ sym (final_out a.run.now a.from a.before a.path.now (omega arith))
 
-sub-start : tie.Need-overflow-sub-start
-sub-start c = search rules
+overflow_sub-start : tie.Need-overflow_sub-start
+overflow_sub-start c = search rules
 
-fail-requires-2 : tie.Need-fail-requires-2
-fail-requires-2 c κs = search rules
+fail-requires-then-start-from : tie.Need-fail-requires-then-start-from
+fail-requires-then-start-from c κs = search rules
 
-returns-2 : tie.Need-returns-2
-returns-2 c =
+returns-then-start-from : tie.Need-returns-then-start-from
+returns-then-start-from c =
     let a = c.before.before.before.before.before.args in
-    c.fail2.ensures ∙ sym (final_out a.run.now a.from a.before a.path.now (omega arith))
+    c.fail-then-start-from.ensures ∙ sym (final_out a.run.now a.from a.before a.path.now (omega arith))
 
-sub-try-run : tie.Need-overflow-sub-try-run
-sub-try-run c = search rules
+slice_bounds-try_run-count : tie.Need-slice_bounds-try_run-count
+slice_bounds-try_run-count c = search rules
 
-part-try-run-start : tie.Need-slice-bounds-try-run-start
-part-try-run-start c = search rules
+slice_bounds-try_run-start : tie.Need-slice_bounds-try_run-start
+slice_bounds-try_run-start c = search rules
 
-part-try-run-end : tie.Need-slice-bounds-try-run-end
-part-try-run-end c = search rules
+slice_bounds-try_run-end : tie.Need-slice_bounds-try_run-end
+slice_bounds-try_run-end c = search rules
 
-try-run-requires : tie.Need-try-run-requires
-try-run-requires c κs =
+try_run-t-requires : tie.Need-try_run-t-requires
+try_run-t-requires c κs =
     let a = c.before.before.before.before.before.args in
     let d = length a.path.now - length a.run.now in
     let p = ap (λ (x : Walked). x.count) (final_in a.run.now a.from a.before a.path.now (omega arith)) in
     let q = placed_count (length a.run.now) d (tried a.run.now (drop d a.path.now) a.before) in
     rw (rest_of d a.path.now) (simp length-drop (omega arith), omega (arith, p, q))
 
-place-run-requires : tie.Need-place-run-requires
-place-run-requires c κs = search rules
+place_run-requires : tie.Need-place_run-requires
+place_run-requires c κs = search rules
 
-returns-3 : tie.Need-returns-3
-returns-3 c =
+returns : tie.Need-returns
+returns c =
     let a = c.before.before.before.before.before.before.before.args in
     let d = length a.path.now - length a.run.now in
-    c.place-run.ensures
-    ∙ ap (placed (length a.run.now) d) (c.before.try-run.ensures ∙ ap (λ (t : List ℕ). tried a.run.now t a.before) (rest_of d a.path.now))
+    c.place_run.ensures
+    ∙ ap (placed (length a.run.now) d) (c.before.try_run-t.ensures ∙ ap (λ (t : List ℕ). tried a.run.now t a.before) (rest_of d a.path.now))
     ∙ sym (final_in a.run.now a.from a.before a.path.now (omega arith))
 
-pub last-run-spec : {M : Type 1} → statement M
-last-run-spec =
-    tie.close
-    (tie.spec
-    fail-requires
-    returns
-    sub-start
-    fail-requires-2
-    returns-2
-    sub-try-run
-    part-try-run-start
-    part-try-run-end
-    try-run-requires
-    place-run-requires
-    returns-3)
+pub last_run_spec : {M : Type 1} → statement M
+last_run_spec = tie.close (tie.spec fail-requires returns-then-path-run overflow_sub-start fail-requires-then-start-from returns-then-start-from slice_bounds-try_run-count slice_bounds-try_run-start slice_bounds-try_run-end try_run-t-requires place_run-requires returns)

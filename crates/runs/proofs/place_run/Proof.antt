@@ -4,17 +4,17 @@ use borrow.Author.Rules.{rules}
 use Rattle.runs.proofs.place_run.Statement.{statement}
 use Rattle.runs.proofs.place_run.Tie as tie
 
-add-t5 : tie.Need-overflow-add-t5
-add-t5 c = search rules
+overflow_add-result : tie.Need-overflow_add-result
+overflow_add-result c = search rules
 
-returns : tie.Need-returns
-returns c = rw c.if1.true
+returns-then-t : tie.Need-returns-then-t
+returns-then-t c = rw c.if-t.true
 
 fail-requires : tie.Need-fail-requires
 fail-requires c κs = search rules
 
-returns-2 : tie.Need-returns-2
-returns-2 c = c.fail.ensures ∙ rw c.before.if1.false
+returns : tie.Need-returns
+returns c = c.fail.ensures ∙ rw c.before.if-t.false
 
-pub place-run-spec : {M : Type 1} → statement M
-place-run-spec = tie.close (tie.spec add-t5 returns fail-requires returns-2)
+pub place_run_spec : {M : Type 1} → statement M
+place_run_spec = tie.close (tie.spec overflow_add-result returns-then-t fail-requires returns)

@@ -16,30 +16,30 @@ use Rattle.text.proofs.Seeks.{up_to_behind}
 use Rattle.text.proofs.clear_front.Statement.{statement}
 use Rattle.text.proofs.clear_front.Tie as tie
 
-abbrev invariant-loop : tie.invariant-loop
-invariant-loop s low high inside last i₀ i = i ≤ length (up_to (among low high inside) s)
+abbrev invariant-loop-i : tie.invariant-loop-i
+invariant-loop-i s low high inside last i₀ i = i ≤ length (up_to (among low high inside) s)
 
-abbrev decreases-loop : tie.decreases-loop
-decreases-loop s low high inside last i₀ i = length s - i
+abbrev decreases-loop-i : tie.decreases-loop-i
+decreases-loop-i s low high inside last i₀ i = length s - i
 
-sub-last : tie.Need-overflow-sub-last invariant-loop decreases-loop
-sub-last c = omega arith
+overflow_sub-last : tie.Need-overflow_sub-last invariant-loop-i decreases-loop-i
+overflow_sub-last c = omega arith
 
-loop-holds : tie.Need-loop-init invariant-loop decreases-loop
-loop-holds c = omega arith
+loop-i-init : tie.Need-loop-i-init invariant-loop-i decreases-loop-i
+loop-i-init c = omega arith
 
-word-at-requires : tie.Need-word-at-requires invariant-loop decreases-loop
-word-at-requires c κs = omega arith
+word_at-requires : tie.Need-word_at-requires invariant-loop-i decreases-loop-i
+word_at-requires c κs = omega arith
 
-marks-requires : tie.Need-marks-requires invariant-loop decreases-loop
-marks-requires c κs = omega arith
+marks-m-requires : tie.Need-marks-m-requires invariant-loop-i decreases-loop-i
+marks-m-requires c κs = omega arith
 
-first-mark-requires : tie.Need-first-mark-requires invariant-loop decreases-loop
-first-mark-requires c κs = tt
+first_mark-requires : tie.Need-first_mark-requires invariant-loop-i decreases-loop-i
+first_mark-requires c κs = tt
 
 -- what is searched, and for what
-module _ (l : tie.At-loop invariant-loop decreases-loop) where
-  abbrev start : tie.Start invariant-loop decreases-loop
+module _ (l : tie.At-loop-i invariant-loop-i decreases-loop-i) where
+  abbrev start : tie.Start invariant-loop-i decreases-loop-i
   start = l.before.before
 
   abbrev text : List ℕ
@@ -72,90 +72,70 @@ module _ (l : tie.At-loop invariant-loop decreases-loop) where
         omega (arith, up_to_over sought 8 (drop k text) (simp length-drop (omega arith)) ((unmarked fits).0 none), behind)
 
 -- the first mark of a word of the loop
-module _ (c : tie.After-first-mark invariant-loop decreases-loop) where
-  abbrev held : tie.After-marks invariant-loop decreases-loop
+module _ (c : tie.After-first_mark invariant-loop-i decreases-loop-i) where
+  abbrev held : tie.After-marks-m invariant-loop-i decreases-loop-i
   held = c.before.before
 
-  abbrev loop : tie.At-loop invariant-loop decreases-loop
+  abbrev loop : tie.At-loop-i invariant-loop-i decreases-loop-i
   loop = held.before.before.before
 
-  here : loop.loop.i + c.first-mark.result ≡ length (up_to (sought loop) (text loop))
+  here : loop.loop-i.i + c.first_mark.result ≡ length (up_to (sought loop) (text loop))
   here =
-      found loop loop.loop.i held.before.word_at.result held.marks.result loop.loop.inv held.before.word_at.ensures held.marks.ensures
-      (omega arith) c.before.if1.true c.first-mark.result c.first-mark.ensures
+      found loop loop.loop-i.i held.before.word_at.result held.marks-m.result loop.loop-i.invariant held.before.word_at.ensures held.marks-m.ensures
+      (omega arith) c.before.if-m-ne0.true c.first_mark.result c.first_mark.ensures
 
 -- and of the last one
-module _ (c : tie.After-first-mark2 invariant-loop decreases-loop) where
-  abbrev held-last : tie.After-marks2 invariant-loop decreases-loop
+module _ (c : tie.After-first_mark-then-m-ne0-2 invariant-loop-i decreases-loop-i) where
+  abbrev held-last : tie.After-marks-m-2 invariant-loop-i decreases-loop-i
   held-last = c.before.before
 
-  abbrev behind-loop : tie.At-loop invariant-loop decreases-loop
+  abbrev behind-loop : tie.At-loop-i invariant-loop-i decreases-loop-i
   behind-loop = held-last.before.before.before
 
-  here-last : length (text behind-loop) - 8 + c.first-mark2.result ≡ length (up_to (sought behind-loop) (text behind-loop))
+  here-last : length (text behind-loop) - 8 + c.first_mark-then-m-ne0-2.result ≡ length (up_to (sought behind-loop) (text behind-loop))
   here-last =
-      found behind-loop (length (text behind-loop) - 8) held-last.before.word-at2.result held-last.marks2.result (omega arith) held-last.before.word-at2.ensures held-last.marks2.ensures
-      (omega arith) c.before.if2.true c.first-mark2.result c.first-mark2.ensures
+      found behind-loop (length (text behind-loop) - 8) held-last.before.word_at-2.result held-last.marks-m-2.result (omega arith) held-last.before.word_at-2.ensures held-last.marks-m-2.ensures
+      (omega arith) c.before.if-m-ne0-2.true c.first_mark-then-m-ne0-2.result c.first_mark-then-m-ne0-2.ensures
 
-add-result : tie.Need-overflow-add-result invariant-loop decreases-loop
-add-result c = omega (arith, here c, up_to_fits (sought (loop c)) (text (loop c)))
+overflow_add-result : tie.Need-overflow_add-result invariant-loop-i decreases-loop-i
+overflow_add-result c = omega (arith, here c, up_to_fits (sought (loop c)) (text (loop c)))
 
-returns : tie.Need-returns invariant-loop decreases-loop
-returns c = here c
+returns-then-m-ne0 : tie.Need-returns-then-m-ne0 invariant-loop-i decreases-loop-i
+returns-then-m-ne0 c = here c
 
-add-i : tie.Need-overflow-add-i invariant-loop decreases-loop
-add-i c = omega arith
+overflow_add-i : tie.Need-overflow_add-i invariant-loop-i decreases-loop-i
+overflow_add-i c = omega arith
 
-loop-less : tie.Need-loop-smaller invariant-loop decreases-loop
-loop-less c = omega arith
+loop-i-smaller : tie.Need-loop-i-smaller invariant-loop-i decreases-loop-i
+loop-i-smaller c = omega arith
 
-loop-again : tie.Need-loop-preserved invariant-loop decreases-loop
-loop-again c =
+loop-i-preserved : tie.Need-loop-i-preserved invariant-loop-i decreases-loop-i
+loop-i-preserved c =
     let w = c.before.before in
     let l = w.before.before in
-    passed l l.loop.i w.word_at.result c.before.marks.result l.loop.invariant w.word_at.ensures c.before.marks.ensures (omega arith) c.if1.false (omega arith)
+    passed l l.loop-i.i w.word_at.result c.before.marks-m.result l.loop-i.invariant w.word_at.ensures c.before.marks-m.ensures (omega arith) c.if-m-ne0.false (omega arith)
 
-word-at-requires-2 : tie.Need-word-at-requires-2 invariant-loop decreases-loop
-word-at-requires-2 c κs = omega arith
+word_at-requires-2 : tie.Need-word_at-requires-2 invariant-loop-i decreases-loop-i
+word_at-requires-2 c κs = omega arith
 
-marks-requires-2 : tie.Need-marks-requires-2 invariant-loop decreases-loop
-marks-requires-2 c κs = omega arith
+marks-m-requires-2 : tie.Need-marks-m-requires-2 invariant-loop-i decreases-loop-i
+marks-m-requires-2 c κs = omega arith
 
-first-mark-requires-2 : tie.Need-first-mark-requires-2 invariant-loop decreases-loop
-first-mark-requires-2 c κs = tt
+first_mark-requires-then-m-ne0-2 : tie.Need-first_mark-requires-then-m-ne0-2 invariant-loop-i decreases-loop-i
+first_mark-requires-then-m-ne0-2 c κs = tt
 
-add-result-2 : tie.Need-overflow-add-result-2 invariant-loop decreases-loop
-add-result-2 c = omega (arith, here-last c, up_to_fits (sought (behind-loop c)) (text (behind-loop c)))
+overflow_add-result-then-m-ne0-2 : tie.Need-overflow_add-result-then-m-ne0-2 invariant-loop-i decreases-loop-i
+overflow_add-result-then-m-ne0-2 c = omega (arith, here-last c, up_to_fits (sought (behind-loop c)) (text (behind-loop c)))
 
-returns-2 : tie.Need-returns-2 invariant-loop decreases-loop
-returns-2 c = here-last c
+returns-then-m-ne0-2 : tie.Need-returns-then-m-ne0-2 invariant-loop-i decreases-loop-i
+returns-then-m-ne0-2 c = here-last c
 
-returns-3 : tie.Need-returns-3 invariant-loop decreases-loop
-returns-3 c =
+returns : tie.Need-returns invariant-loop-i decreases-loop-i
+returns c =
     let w = c.before.before in
     let l = w.before.before in
-    let all = passed l (length (text l) - 8) w.word-at2.result c.before.marks2.result (omega arith) w.word-at2.ensures c.before.marks2.ensures (omega arith) c.if2.false (omega arith) in
+    let all = passed l (length (text l) - 8) w.word_at-2.result c.before.marks-m-2.result (omega arith) w.word_at-2.ensures c.before.marks-m-2.ensures (omega arith) c.if-m-ne0-2.false (omega arith) in
     omega (arith, all, up_to_fits (sought l) (text l))
 
-pub clear-front-spec : {M : Type 1} → statement M
-clear-front-spec =
-    tie.close
-    (tie.spec
-    invariant-loop
-    decreases-loop
-    sub-last
-    loop-holds
-    word-at-requires
-    marks-requires
-    first-mark-requires
-    add-result
-    returns
-    add-i
-    loop-less
-    loop-again
-    word-at-requires-2
-    marks-requires-2
-    first-mark-requires-2
-    add-result-2
-    returns-2
-    returns-3)
+pub clear_front_spec : {M : Type 1} → statement M
+clear_front_spec = tie.close (tie.spec invariant-loop-i decreases-loop-i overflow_sub-last loop-i-init word_at-requires marks-m-requires first_mark-requires overflow_add-result returns-then-m-ne0 overflow_add-i loop-i-smaller loop-i-preserved word_at-requires-2 marks-m-requires-2 first_mark-requires-then-m-ne0-2 overflow_add-result-then-m-ne0-2 returns-then-m-ne0-2 returns)

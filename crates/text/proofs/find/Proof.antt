@@ -10,13 +10,13 @@ use Rattle.text.proofs.Seeks.{only_one}
 use Rattle.text.proofs.find.Statement.{statement}
 use Rattle.text.proofs.find.Tie as tie
 
-seek-requires : tie.Need-seek-requires
-seek-requires c κs = tt
+seek-place-requires : tie.Need-seek-place-requires
+seek-place-requires c κs = tt
 
 returns : tie.Need-returns
 returns c =
     let a = c.before.before.args in
-    omega (arith, ap (λ (p : Place). p.offset) c.seek.ensures, ap (λ (f : ℕ → Bool). length (up_to f a.s.now)) (fun_ext (only_one a.x)))
+    omega (arith, ap (λ (p : Place). p.offset) c.seek-place.ensures, ap (λ (f : ℕ → Bool). length (up_to f a.s.now)) (fun_ext (only_one a.x)))
 
 pub find_spec : {M : Type 1} → statement M
-find_spec = tie.close (tie.spec seek-requires returns)
+find_spec = tie.close (tie.spec seek-place-requires returns)

@@ -7,20 +7,20 @@ use Rattle.lists.proofs.Scans.{drop_one}
 use Rattle.text.proofs.is_end_at.Statement.{statement}
 use Rattle.text.proofs.is_end_at.Tie as tie
 
+returns-then-s-i : tie.Need-returns-then-s-i
+returns-then-s-i c = let a = c.before.before.args in rw (drop_of_length-le a.s.now {i = a.at.offset} (omega (arith, c.if-s-i.true)))
+
+bounds-s-i : tie.Need-bounds-s-i
+bounds-s-i c = search rules
+
+is_of-requires : tie.Need-is_of-requires
+is_of-requires c κs = search rules
+
 returns : tie.Need-returns
-returns c = let a = c.before.before.args in rw (drop_of_length-le a.s.now {i = a.at.offset} (omega (arith, c.if1.true)))
-
-shared-slice-read-is-of : tie.Need-shared-slice-read-is-of
-shared-slice-read-is-of c = search rules
-
-is-of-requires : tie.Need-is-of-requires
-is-of-requires c κs = search rules
-
-returns-2 : tie.Need-returns-2
-returns-2 c =
+returns c =
     let e = c.before.before in
     let a = e.before.before.args in
-    c.is-of.ensures ∙ rw (drop_one a.s.now a.at.offset 0 (omega (arith, e.if1.false)))
+    c.is_of.ensures ∙ rw (drop_one a.s.now a.at.offset 0 (omega (arith, e.if-s-i.false)))
 
-pub is-end-at-spec : {M : Type 1} → statement M
-is-end-at-spec = tie.close (tie.spec returns shared-slice-read-is-of is-of-requires returns-2)
+pub is_end_at_spec : {M : Type 1} → statement M
+is_end_at_spec = tie.close (tie.spec returns-then-s-i bounds-s-i is_of-requires returns)

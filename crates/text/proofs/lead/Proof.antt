@@ -11,5 +11,5 @@ returns : tie.Need-returns
 unfolding lead
 returns c = c.scan.ensures
 
-pub lead-spec : {M : Type 1} → statement M
-lead-spec = tie.close (tie.spec scan-requires returns)
+pub lead_spec : {M : Type 1} → statement M
+lead_spec = tie.close (tie.spec scan-requires returns)

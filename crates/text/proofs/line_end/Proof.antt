@@ -16,14 +16,14 @@ use Rattle.text.specs.Parts.{opens, first_from}
 use Rattle.text.proofs.line_end.Statement.{statement}
 use Rattle.text.proofs.line_end.Tie as tie
 
-abbrev invariant-loop : tie.invariant-loop
-invariant-loop classes s i₀ i = i + length (up_to line_end (drop i s)) ≡ i₀ + length (up_to line_end (drop i₀ s))
+abbrev invariant-loop-i : tie.invariant-loop-i
+invariant-loop-i classes s i₀ i = i + length (up_to line_end (drop i s)) ≡ i₀ + length (up_to line_end (drop i₀ s))
 
-abbrev decreases-loop : tie.decreases-loop
-decreases-loop classes s i₀ i = length s - i
+abbrev decreases-loop-i : tie.decreases-loop-i
+decreases-loop-i classes s i₀ i = length s - i
 
-is-end-at-requires : tie.Need-is-end-at-requires invariant-loop decreases-loop
-is-end-at-requires c κs = search rules
+is_end_at-requires : tie.Need-is_end_at-requires invariant-loop-i decreases-loop-i
+is_end_at-requires c κs = search rules
 
 -- one stands there
 here-already : (s : List ℕ) (p : Place) → opens line_end (drop p.offset s) ≡ true → p ≡ first_from line_end s p
@@ -33,81 +33,66 @@ here-already s p e = ap place_at (omega (arith, none (drop p.offset s) e))
     none [] e = absurd (false≢true e)
     none (x ∷ l) e = ap length (up_to_stop line_end x l e)
 
-returns : tie.Need-returns invariant-loop decreases-loop
-returns c =
+returns-then-is_end_at : tie.Need-returns-then-is_end_at invariant-loop-i decreases-loop-i
+returns-then-is_end_at c =
     let e = c.before in
     let a = e.before.before.args in
-    here-already a.s.now a.from (sym e.is-end-at.ensures ∙ c.if1.true)
+    here-already a.s.now a.from (sym e.is_end_at.ensures ∙ c.if-is_end_at.true)
 
-past-line-requires : tie.Need-past-line-requires invariant-loop decreases-loop
-past-line-requires c κs = tt
+past_line-start-requires : tie.Need-past_line-start-requires invariant-loop-i decreases-loop-i
+past_line-start-requires c κs = tt
 
-loop-holds : tie.Need-loop-init invariant-loop decreases-loop
-loop-holds c = refl
+loop-i-init : tie.Need-loop-i-init invariant-loop-i decreases-loop-i
+loop-i-init c = refl
 
-shared-slice-read-is-of : tie.Need-shared-slice-read-is-of invariant-loop decreases-loop
-shared-slice-read-is-of c = omega arith
+bounds-s-i : tie.Need-bounds-s-i invariant-loop-i decreases-loop-i
+bounds-s-i c = omega arith
 
-is-of-requires : tie.Need-is-of-requires invariant-loop decreases-loop
-is-of-requires c κs = search rules
+is_of-requires : tie.Need-is_of-requires invariant-loop-i decreases-loop-i
+is_of-requires c κs = search rules
 
 -- the text, and where the search has come to
-module _ (l : tie.At-loop invariant-loop decreases-loop) where
-  abbrev start : tie.Start invariant-loop decreases-loop
+module _ (l : tie.At-loop-i invariant-loop-i decreases-loop-i) where
+  abbrev start : tie.Start invariant-loop-i decreases-loop-i
   start = l.before.before.before.before.before
 
   abbrev text : List ℕ
   text = start.args.s.now
 
   abbrev here : ℕ
-  here = l.loop.i
+  here = l.loop-i.i
 
   -- what is left gives the whole
   whole : here + length (up_to line_end (drop here text)) ≡ start.args.from.offset + length (up_to line_end (drop start.args.from.offset text))
-  whole = l.loop.inv ∙ ap (λ (p : Place). p.offset) l.before.past-line.ensures
+  whole = l.loop-i.invariant ∙ ap (λ (p : Place). p.offset) l.before.past_line-start.ensures
 
 -- the octet there, looked at
-module _ (c : tie.After-is-of invariant-loop decreases-loop) where
-  abbrev loop : tie.At-loop invariant-loop decreases-loop
+module _ (c : tie.After-is_of invariant-loop-i decreases-loop-i) where
+  abbrev loop : tie.At-loop-i invariant-loop-i decreases-loop-i
   loop = c.before.before.before
 
-  told : line_end (get_or (text loop) (here loop) 0) ≡ c.is-of.result
-  told = sym c.is-of.ensures
+  told : line_end (get_or (text loop) (here loop) 0) ≡ c.is_of.result
+  told = sym c.is_of.ensures
 
-returns-2 : tie.Need-returns-2 invariant-loop decreases-loop
-returns-2 c =
+returns-then-is_of : tie.Need-returns-then-is_of invariant-loop-i decreases-loop-i
+returns-then-is_of c =
     let l = loop c.before in
-    ap place_at (omega (arith, whole l, scan_stop line_end (text l) (here l) 0 (omega arith) (told c.before ∙ c.if2.true)))
+    ap place_at (omega (arith, whole l, scan_stop line_end (text l) (here l) 0 (omega arith) (told c.before ∙ c.if-is_of.true)))
 
-add-i : tie.Need-overflow-add-i invariant-loop decreases-loop
-add-i c = omega arith
+overflow_add-i : tie.Need-overflow_add-i invariant-loop-i decreases-loop-i
+overflow_add-i c = omega arith
 
-loop-less : tie.Need-loop-smaller invariant-loop decreases-loop
-loop-less c = omega arith
+loop-i-smaller : tie.Need-loop-i-smaller invariant-loop-i decreases-loop-i
+loop-i-smaller c = omega arith
 
-loop-again : tie.Need-loop-preserved invariant-loop decreases-loop
-loop-again c =
+loop-i-preserved : tie.Need-loop-i-preserved invariant-loop-i decreases-loop-i
+loop-i-preserved c =
     let l = loop c.before in
-    omega (arith, l.loop.inv, scan_on line_end (text l) (here l) 0 (omega arith) (told c.before ∙ c.if2.false))
+    omega (arith, l.loop-i.invariant, scan_on line_end (text l) (here l) 0 (omega arith) (told c.before ∙ c.if-is_of.false))
 
-returns-3 : tie.Need-returns-3 invariant-loop decreases-loop
-returns-3 c =
+returns : tie.Need-returns invariant-loop-i decreases-loop-i
+returns c =
     ap place_at (omega (arith, whole c.before, scan_none line_end (text c.before) (here c.before) 0 (omega arith)))
 
-pub line-end-spec : {M : Type 1} → statement M
-line-end-spec =
-    tie.close
-    (tie.spec
-    invariant-loop
-    decreases-loop
-    is-end-at-requires
-    returns
-    past-line-requires
-    loop-holds
-    shared-slice-read-is-of
-    is-of-requires
-    returns-2
-    add-i
-    loop-less
-    loop-again
-    returns-3)
+pub line_end_spec : {M : Type 1} → statement M
+line_end_spec = tie.close (tie.spec invariant-loop-i decreases-loop-i is_end_at-requires returns-then-is_end_at past_line-start-requires loop-i-init bounds-s-i is_of-requires returns-then-is_of overflow_add-i loop-i-smaller loop-i-preserved returns)

@@ -25,8 +25,8 @@ either_end x = ap₂ (λ (a b : Bool). a || b) (only_one 13 x) (only_one 10 x)
 returns : tie.Need-returns
 returns c =
     let w = c.before.before.args.w in
-    either_marks (among 13 13 true) (among 10 10 true) 8 w c.before.marks.result c.marks2.result c.before.marks.ensures c.marks2.ensures
+    either_marks (among 13 13 true) (among 10 10 true) 8 w c.before.marks.result c.marks-2.result c.before.marks.ensures c.marks-2.ensures
     ∙ each_as 8 w (mark (λ x. among 13 13 true x || among 10 10 true x)) (mark line_end) (λ x k. ap (λ (b : Bool). if b then 128 else 0) (either_end x))
 
-pub line-end-marks-spec : {M : Type 1} → statement M
-line-end-marks-spec = tie.close (tie.spec marks-requires marks-requires-2 returns)
+pub line_end_marks_spec : {M : Type 1} → statement M
+line_end_marks_spec = tie.close (tie.spec marks-requires marks-requires-2 returns)

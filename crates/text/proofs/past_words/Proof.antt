@@ -15,34 +15,34 @@ use Rattle.text.proofs.Seeks.{up_to_part, scan_from}
 use Rattle.text.proofs.past_words.Statement.{statement}
 use Rattle.text.proofs.past_words.Tie as tie
 
-abbrev invariant-loop : tie.invariant-loop
-invariant-loop s low high inside last i₀ i =
+abbrev invariant-loop-i : tie.invariant-loop-i
+invariant-loop-i s low high inside last i₀ i =
     i + length (up_to (among low high inside) (drop i s)) ≡ i₀ + length (up_to (among low high inside) (drop i₀ s))
 
-abbrev decreases-loop : tie.decreases-loop
-decreases-loop s low high inside last i₀ i = length s - i
+abbrev decreases-loop-i : tie.decreases-loop-i
+decreases-loop-i s low high inside last i₀ i = length s - i
 
-returns : tie.Need-returns invariant-loop decreases-loop
-returns c = refl
+returns-then-low-gt127 : tie.Need-returns-then-low-gt127 invariant-loop-i decreases-loop-i
+returns-then-low-gt127 c = refl
 
-sub-last : tie.Need-overflow-sub-last invariant-loop decreases-loop
-sub-last c = omega (arith, ltb-false)
+overflow_sub-last : tie.Need-overflow_sub-last invariant-loop-i decreases-loop-i
+overflow_sub-last c = omega (arith, ltb-false)
 
-loop-holds : tie.Need-loop-init invariant-loop decreases-loop
-loop-holds c = refl
+loop-i-init : tie.Need-loop-i-init invariant-loop-i decreases-loop-i
+loop-i-init c = refl
 
-word-at-requires : tie.Need-word-at-requires invariant-loop decreases-loop
-word-at-requires c κs = omega (arith, ltb-false)
+word_at-requires : tie.Need-word_at-requires invariant-loop-i decreases-loop-i
+word_at-requires c κs = omega (arith, ltb-false)
 
-marks-requires : tie.Need-marks-requires invariant-loop decreases-loop
+marks-requires : tie.Need-marks-requires invariant-loop-i decreases-loop-i
 marks-requires c κs = omega (arith, ltb-false)
 
-first-mark-requires : tie.Need-first-mark-requires invariant-loop decreases-loop
-first-mark-requires c κs = tt
+first_mark-front-requires : tie.Need-first_mark-front-requires invariant-loop-i decreases-loop-i
+first_mark-front-requires c κs = tt
 
 -- what is searched, for what, and from where on
-module _ (l : tie.At-loop invariant-loop decreases-loop) where
-  abbrev start : tie.Start invariant-loop decreases-loop
+module _ (l : tie.At-loop-i invariant-loop-i decreases-loop-i) where
+  abbrev start : tie.Start invariant-loop-i decreases-loop-i
   start = l.before.before.before.before.before
 
   abbrev text : List ℕ
@@ -52,22 +52,22 @@ module _ (l : tie.At-loop invariant-loop decreases-loop) where
   sought = among start.args.low start.args.high start.args.inside
 
   abbrev here : ℕ
-  here = l.loop.i
+  here = l.loop-i.i
 
 -- behind the front of a word the search goes on
-module _ (c : tie.After-first-mark invariant-loop decreases-loop) where
-  abbrev marked : tie.After-marks invariant-loop decreases-loop
+module _ (c : tie.After-first_mark-front invariant-loop-i decreases-loop-i) where
+  abbrev marked : tie.After-marks invariant-loop-i decreases-loop-i
   marked = c.before
 
-  abbrev loop : tie.At-loop invariant-loop decreases-loop
+  abbrev loop : tie.At-loop-i invariant-loop-i decreases-loop-i
   loop = marked.before.before.before
 
   abbrev front : ℕ
-  front = c.first-mark.result
+  front = c.first_mark-front.result
 
   found : front ≡ length (up_to (sought loop) (take 8 (drop (here loop) (text loop))))
   found =
-      c.first-mark.ensures
+      c.first_mark-front.ensures
       ∙ first_found (sought loop) 8 marked.before.word_at.result marked.marks.result (take 8 (drop (here loop) (text loop)))
       marked.before.word_at.ensures marked.marks.ensures
 
@@ -84,39 +84,23 @@ module _ (c : tie.After-first-mark invariant-loop decreases-loop) where
       let block = drop (here loop) (text loop) in
       omega (arith, found, up_to_fits (sought loop) (take 8 block), length-take 8 block)
 
-add-found : tie.Need-overflow-add-found invariant-loop decreases-loop
-add-found c = omega (arith, front_fits c.before, ltb-false)
+overflow_add-found : tie.Need-overflow_add-found invariant-loop-i decreases-loop-i
+overflow_add-found c = omega (arith, front_fits c.before, ltb-false)
 
-returns-2 : tie.Need-returns-2 invariant-loop decreases-loop
-returns-2 c = ap place_at (on c.before (front c.before) refl ∙ (loop c.before).loop.inv)
+returns-then-front-lt8 : tie.Need-returns-then-front-lt8 invariant-loop-i decreases-loop-i
+returns-then-front-lt8 c = ap place_at (on c.before (front c.before) refl ∙ (loop c.before).loop-i.invariant)
 
-add-i : tie.Need-overflow-add-i invariant-loop decreases-loop
-add-i c = omega (arith, ltb-false)
+overflow_add-i : tie.Need-overflow_add-i invariant-loop-i decreases-loop-i
+overflow_add-i c = omega (arith, ltb-false)
 
-loop-less : tie.Need-loop-smaller invariant-loop decreases-loop
-loop-less c = omega (arith, ltb-false)
+loop-i-smaller : tie.Need-loop-i-smaller invariant-loop-i decreases-loop-i
+loop-i-smaller c = omega (arith, ltb-false)
 
-loop-again : tie.Need-loop-preserved invariant-loop decreases-loop
-loop-again c = on c.before 8 (omega (arith, front_fits c.before, c.if4.false)) ∙ (loop c.before).loop.inv
+loop-i-preserved : tie.Need-loop-i-preserved invariant-loop-i decreases-loop-i
+loop-i-preserved c = on c.before 8 (omega (arith, front_fits c.before, c.if-front-lt8.false)) ∙ (loop c.before).loop-i.invariant
 
-returns-3 : tie.Need-returns-3 invariant-loop decreases-loop
-returns-3 c = ap place_at c.before.loop.invariant
+returns : tie.Need-returns invariant-loop-i decreases-loop-i
+returns c = ap place_at c.before.loop-i.invariant
 
-pub past-words-spec : {M : Type 1} → statement M
-past-words-spec =
-    tie.close
-    (tie.spec
-    invariant-loop
-    decreases-loop
-    returns
-    sub-last
-    loop-holds
-    word-at-requires
-    marks-requires
-    first-mark-requires
-    add-found
-    returns-2
-    add-i
-    loop-less
-    loop-again
-    returns-3)
+pub past_words_spec : {M : Type 1} → statement M
+past_words_spec = tie.close (tie.spec invariant-loop-i decreases-loop-i returns-then-low-gt127 overflow_sub-last loop-i-init word_at-requires marks-requires first_mark-front-requires overflow_add-found returns-then-front-lt8 overflow_add-i loop-i-smaller loop-i-preserved returns)

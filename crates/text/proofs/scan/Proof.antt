@@ -13,24 +13,24 @@ use Rattle.text.proofs.Seeks.{as_sought}
 use Rattle.text.proofs.scan.Statement.{statement}
 use Rattle.text.proofs.scan.Tie as tie
 
-abbrev invariant-loop : tie.invariant-loop
-invariant-loop classes s sort inside i₀ i = i + length (up_to (sought sort inside) (drop i s)) ≡ length (up_to (sought sort inside) s)
+abbrev invariant-loop-i : tie.invariant-loop-i
+invariant-loop-i classes s sort inside i₀ i = i + length (up_to (sought sort inside) (drop i s)) ≡ length (up_to (sought sort inside) s)
 
-abbrev decreases-loop : tie.decreases-loop
-decreases-loop classes s sort inside i₀ i = length s - i
+abbrev decreases-loop-i : tie.decreases-loop-i
+decreases-loop-i classes s sort inside i₀ i = length s - i
 
-loop-holds : tie.Need-loop-init invariant-loop decreases-loop
-loop-holds c = omega arith
+loop-i-init : tie.Need-loop-i-init invariant-loop-i decreases-loop-i
+loop-i-init c = omega arith
 
-shared-slice-read-is-of : tie.Need-shared-slice-read-is-of invariant-loop decreases-loop
-shared-slice-read-is-of c = omega arith
+bounds-s-i : tie.Need-bounds-s-i invariant-loop-i decreases-loop-i
+bounds-s-i c = omega arith
 
-is-of-requires : tie.Need-is-of-requires invariant-loop decreases-loop
-is-of-requires c κs = search rules
+is_of-requires : tie.Need-is_of-requires invariant-loop-i decreases-loop-i
+is_of-requires c κs = search rules
 
 -- the text, what is sought, and where the search has come to
-module _ (l : tie.At-loop invariant-loop decreases-loop) where
-  abbrev start : tie.Start invariant-loop decreases-loop
+module _ (l : tie.At-loop-i invariant-loop-i decreases-loop-i) where
+  abbrev start : tie.Start invariant-loop-i decreases-loop-i
   start = l.before.before
 
   abbrev text : List ℕ
@@ -40,44 +40,32 @@ module _ (l : tie.At-loop invariant-loop decreases-loop) where
   test = sought start.args.sort start.args.inside
 
   abbrev here : ℕ
-  here = l.loop.i
+  here = l.loop-i.i
 
 -- the octet there, looked at
-module _ (c : tie.After-is-of invariant-loop decreases-loop) where
-  abbrev loop : tie.At-loop invariant-loop decreases-loop
+module _ (c : tie.After-is_of invariant-loop-i decreases-loop-i) where
+  abbrev loop : tie.At-loop-i invariant-loop-i decreases-loop-i
   loop = c.before.before.before
 
-  told : test loop (get_or (text loop) (here loop) 0) ≡ beq c.is-of.result (start loop).args.inside
-  told = sym (as_sought _ (start loop).args.inside) ∙ ap (λ (b : Bool). beq b (start loop).args.inside) (sym c.is-of.ensures)
+  told : test loop (get_or (text loop) (here loop) 0) ≡ beq c.is_of.result (start loop).args.inside
+  told = sym (as_sought _ (start loop).args.inside) ∙ ap (λ (b : Bool). beq b (start loop).args.inside) (sym c.is_of.ensures)
 
-returns : tie.Need-returns invariant-loop decreases-loop
-returns c =
-    let l = loop c.before in omega (arith, l.loop.inv, scan_stop (test l) (text l) (here l) 0 (omega arith) (told c.before ∙ c.if1.true))
+returns-then-is_of-inside : tie.Need-returns-then-is_of-inside invariant-loop-i decreases-loop-i
+returns-then-is_of-inside c =
+    let l = loop c.before in omega (arith, l.loop-i.invariant, scan_stop (test l) (text l) (here l) 0 (omega arith) (told c.before ∙ c.if-is_of-inside.true))
 
-add-i : tie.Need-overflow-add-i invariant-loop decreases-loop
-add-i c = omega arith
+overflow_add-i : tie.Need-overflow_add-i invariant-loop-i decreases-loop-i
+overflow_add-i c = omega arith
 
-loop-less : tie.Need-loop-smaller invariant-loop decreases-loop
-loop-less c = omega arith
+loop-i-smaller : tie.Need-loop-i-smaller invariant-loop-i decreases-loop-i
+loop-i-smaller c = omega arith
 
-loop-again : tie.Need-loop-preserved invariant-loop decreases-loop
-loop-again c =
-    let l = loop c.before in omega (arith, l.loop.inv, scan_on (test l) (text l) (here l) 0 (omega arith) (told c.before ∙ c.if1.false))
+loop-i-preserved : tie.Need-loop-i-preserved invariant-loop-i decreases-loop-i
+loop-i-preserved c =
+    let l = loop c.before in omega (arith, l.loop-i.invariant, scan_on (test l) (text l) (here l) 0 (omega arith) (told c.before ∙ c.if-is_of-inside.false))
 
-returns-2 : tie.Need-returns-2 invariant-loop decreases-loop
-returns-2 c = let l = c.before in omega (arith, l.loop.invariant, scan_none (test l) (text l) (here l) 0 (omega arith))
+returns : tie.Need-returns invariant-loop-i decreases-loop-i
+returns c = let l = c.before in omega (arith, l.loop-i.invariant, scan_none (test l) (text l) (here l) 0 (omega arith))
 
-pub scan-spec : {M : Type 1} → statement M
-scan-spec =
-    tie.close
-    (tie.spec
-    invariant-loop
-    decreases-loop
-    loop-holds
-    shared-slice-read-is-of
-    is-of-requires
-    returns
-    add-i
-    loop-less
-    loop-again
-    returns-2)
+pub scan_spec : {M : Type 1} → statement M
+scan_spec = tie.close (tie.spec invariant-loop-i decreases-loop-i loop-i-init bounds-s-i is_of-requires returns-then-is_of-inside overflow_add-i loop-i-smaller loop-i-preserved returns)

@@ -13,28 +13,28 @@ use Rattle.words.specs.Words.{among}
 use Rattle.text.proofs.seek.Statement.{statement}
 use Rattle.text.proofs.seek.Tie as tie
 
-abbrev invariant-loop : tie.invariant-loop
-invariant-loop s low high inside i₀ i =
+abbrev invariant-loop-i : tie.invariant-loop-i
+invariant-loop-i s low high inside i₀ i =
     i + length (up_to (among low high inside) (drop i s)) ≡ i₀ + length (up_to (among low high inside) (drop i₀ s))
 
-abbrev decreases-loop : tie.decreases-loop
-decreases-loop s low high inside i₀ i = length s - i
+abbrev decreases-loop-i : tie.decreases-loop-i
+decreases-loop-i s low high inside i₀ i = length s - i
 
-past-words-requires : tie.Need-past-words-requires invariant-loop decreases-loop
-past-words-requires c κs = tt
+past_words-start-requires : tie.Need-past_words-start-requires invariant-loop-i decreases-loop-i
+past_words-start-requires c κs = tt
 
-loop-holds : tie.Need-loop-init invariant-loop decreases-loop
-loop-holds c = refl
+loop-i-init : tie.Need-loop-i-init invariant-loop-i decreases-loop-i
+loop-i-init c = refl
 
-shared-slice-read-is-among : tie.Need-shared-slice-read-is-among invariant-loop decreases-loop
-shared-slice-read-is-among c = omega arith
+bounds-s-i : tie.Need-bounds-s-i invariant-loop-i decreases-loop-i
+bounds-s-i c = omega arith
 
-is-among-requires : tie.Need-is-among-requires invariant-loop decreases-loop
-is-among-requires c κs = tt
+is_among-requires : tie.Need-is_among-requires invariant-loop-i decreases-loop-i
+is_among-requires c κs = tt
 
 -- what is searched, for what, and where the search has come to
-module _ (l : tie.At-loop invariant-loop decreases-loop) where
-  abbrev start : tie.Start invariant-loop decreases-loop
+module _ (l : tie.At-loop-i invariant-loop-i decreases-loop-i) where
+  abbrev start : tie.Start invariant-loop-i decreases-loop-i
   start = l.before.before.before
 
   abbrev text : List ℕ
@@ -44,51 +44,38 @@ module _ (l : tie.At-loop invariant-loop decreases-loop) where
   sought = among start.args.low start.args.high start.args.inside
 
   abbrev here : ℕ
-  here = l.loop.i
+  here = l.loop-i.i
 
   -- what is left gives the whole
   whole : here + length (up_to sought (drop here text)) ≡ start.args.from.offset + length (up_to sought (drop start.args.from.offset text))
-  whole = l.loop.inv ∙ ap (λ (p : Place). p.offset) l.before.past_words.ensures
+  whole = l.loop-i.invariant ∙ ap (λ (p : Place). p.offset) l.before.past_words-start.ensures
 
 -- the octet there, looked at
-module _ (c : tie.After-is-among invariant-loop decreases-loop) where
-  abbrev loop : tie.At-loop invariant-loop decreases-loop
+module _ (c : tie.After-is_among invariant-loop-i decreases-loop-i) where
+  abbrev loop : tie.At-loop-i invariant-loop-i decreases-loop-i
   loop = c.before.before.before
 
   told : sought loop (get_or (text loop) (here loop) 0) ≡ c.is_among.result
   told = sym c.is_among.ensures
 
-returns : tie.Need-returns invariant-loop decreases-loop
-returns c =
+returns-then-is_among : tie.Need-returns-then-is_among invariant-loop-i decreases-loop-i
+returns-then-is_among c =
     let l = loop c.before in
-    ap place_at (omega (arith, whole l, scan_stop (sought l) (text l) (here l) 0 (omega arith) (told c.before ∙ c.if1.true)))
+    ap place_at (omega (arith, whole l, scan_stop (sought l) (text l) (here l) 0 (omega arith) (told c.before ∙ c.if-is_among.true)))
 
-add-i : tie.Need-overflow-add-i invariant-loop decreases-loop
-add-i c = omega arith
+overflow_add-i : tie.Need-overflow_add-i invariant-loop-i decreases-loop-i
+overflow_add-i c = omega arith
 
-loop-less : tie.Need-loop-smaller invariant-loop decreases-loop
-loop-less c = omega arith
+loop-i-smaller : tie.Need-loop-i-smaller invariant-loop-i decreases-loop-i
+loop-i-smaller c = omega arith
 
-loop-again : tie.Need-loop-preserved invariant-loop decreases-loop
-loop-again c =
+loop-i-preserved : tie.Need-loop-i-preserved invariant-loop-i decreases-loop-i
+loop-i-preserved c =
     let l = loop c.before in
-    omega (arith, l.loop.inv, scan_on (sought l) (text l) (here l) 0 (omega arith) (told c.before ∙ c.if1.false))
+    omega (arith, l.loop-i.invariant, scan_on (sought l) (text l) (here l) 0 (omega arith) (told c.before ∙ c.if-is_among.false))
 
-returns-2 : tie.Need-returns-2 invariant-loop decreases-loop
-returns-2 c = ap place_at (omega (arith, whole c.before, scan_none (sought c.before) (text c.before) (here c.before) 0 (omega arith)))
+returns : tie.Need-returns invariant-loop-i decreases-loop-i
+returns c = ap place_at (omega (arith, whole c.before, scan_none (sought c.before) (text c.before) (here c.before) 0 (omega arith)))
 
-pub seek-spec : {M : Type 1} → statement M
-seek-spec =
-    tie.close
-    (tie.spec
-    invariant-loop
-    decreases-loop
-    past-words-requires
-    loop-holds
-    shared-slice-read-is-among
-    is-among-requires
-    returns
-    add-i
-    loop-less
-    loop-again
-    returns-2)
+pub seek_spec : {M : Type 1} → statement M
+seek_spec = tie.close (tie.spec invariant-loop-i decreases-loop-i past_words-start-requires loop-i-init bounds-s-i is_among-requires returns-then-is_among overflow_add-i loop-i-smaller loop-i-preserved returns)

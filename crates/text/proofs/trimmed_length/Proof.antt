@@ -13,78 +13,65 @@ use Rattle.text.proofs.Trims.{end_blank, end_solid, end_none}
 use Rattle.text.proofs.trimmed_length.Statement.{statement}
 use Rattle.text.proofs.trimmed_length.Tie as tie
 
-abbrev invariant-loop : tie.invariant-loop
-invariant-loop classes s n₀ n = (n ≤ length s) × (trim_end (take n s) ≡ trim_end s)
+abbrev invariant-loop-n : tie.invariant-loop-n
+invariant-loop-n classes s n₀ n = (n ≤ length s) × (trim_end (take n s) ≡ trim_end s)
 
-abbrev decreases-loop : tie.decreases-loop
-decreases-loop classes s n₀ n = n
+abbrev decreases-loop-n : tie.decreases-loop-n
+decreases-loop-n classes s n₀ n = n
 
-loop-holds : tie.Need-loop-init invariant-loop decreases-loop
-loop-holds c = (omega arith, ap trim_end (take_all (length c.before.args.s.now) c.before.args.s.now (omega arith)))
+loop-n-init : tie.Need-loop-n-init invariant-loop-n decreases-loop-n
+loop-n-init c = (omega arith, ap trim_end (take_all (length c.before.args.s.now) c.before.args.s.now (omega arith)))
 
-sub-is-of : tie.Need-overflow-sub-is-of invariant-loop decreases-loop
-sub-is-of c = omega arith
+overflow_sub-n : tie.Need-overflow_sub-n invariant-loop-n decreases-loop-n
+overflow_sub-n c = omega arith
 
-shared-slice-read-is-of : tie.Need-shared-slice-read-is-of invariant-loop decreases-loop
-shared-slice-read-is-of c = omega arith
+bounds-s-n : tie.Need-bounds-s-n invariant-loop-n decreases-loop-n
+bounds-s-n c = omega arith
 
-is-of-requires : tie.Need-is-of-requires invariant-loop decreases-loop
-is-of-requires c κs = search rules
+is_of-requires : tie.Need-is_of-requires invariant-loop-n decreases-loop-n
+is_of-requires c κs = search rules
 
 -- the text, and how much of it is left
-module _ (l : tie.At-loop invariant-loop decreases-loop) where
+module _ (l : tie.At-loop-n invariant-loop-n decreases-loop-n) where
   abbrev text : List ℕ
   text = l.before.before.args.s.now
 
   abbrev left : ℕ
-  left = l.loop.n
+  left = l.loop-n.n
 
 -- the last octet of it, looked at
-module _ (c : tie.After-is-of invariant-loop decreases-loop) where
-  abbrev loop : tie.At-loop invariant-loop decreases-loop
+module _ (c : tie.After-is_of invariant-loop-n decreases-loop-n) where
+  abbrev loop : tie.At-loop-n invariant-loop-n decreases-loop-n
   loop = c.before.before.before
 
-  told : blank (get_or (text loop) (left loop - 1) 0) ≡ c.is-of.result
-  told = sym c.is-of.ensures
+  told : blank (get_or (text loop) (left loop - 1) 0) ≡ c.is_of.result
+  told = sym c.is_of.ensures
 
-returns : tie.Need-returns invariant-loop decreases-loop
+returns-then-not-is_of : tie.Need-returns-then-not-is_of invariant-loop-n decreases-loop-n
+returns-then-not-is_of c =
+    let b = c.before in
+    let l = loop b in
+    let solid = told b ∙ c.if-not-is_of.true in
+    sym (ap length (sym l.loop-n.invariant.1) ∙ end_solid (text l) (left l) (omega arith) (omega arith) solid)
+
+overflow_sub-n-in-loop-n : tie.Need-overflow_sub-n-in-loop-n invariant-loop-n decreases-loop-n
+overflow_sub-n-in-loop-n c = omega arith
+
+loop-n-smaller : tie.Need-loop-n-smaller invariant-loop-n decreases-loop-n
+loop-n-smaller c = omega arith
+
+loop-n-preserved : tie.Need-loop-n-preserved invariant-loop-n decreases-loop-n
+loop-n-preserved c =
+    let b = c.before in
+    let l = loop b in
+    let blanks = told b ∙ c.if-not-is_of.false in
+    (omega arith, end_blank (text l) (left l) (omega arith) (omega arith) blanks ∙ l.loop-n.invariant.1)
+
+returns : tie.Need-returns invariant-loop-n decreases-loop-n
 returns c =
-    let b = c.before in
-    let l = loop b in
-    let solid = told b ∙ not-true b.is-of.result c.if1.true in
-    sym (ap length (sym l.loop.inv.1) ∙ end_solid (text l) (left l) (omega arith) (omega arith) solid)
-
-sub-n : tie.Need-overflow-sub-n invariant-loop decreases-loop
-sub-n c = omega arith
-
-loop-less : tie.Need-loop-smaller invariant-loop decreases-loop
-loop-less c = omega arith
-
-loop-again : tie.Need-loop-preserved invariant-loop decreases-loop
-loop-again c =
-    let b = c.before in
-    let l = loop b in
-    let blanks = told b ∙ not-false b.is-of.result c.if1.false in
-    (omega arith, end_blank (text l) (left l) (omega arith) (omega arith) blanks ∙ l.loop.inv.1)
-
-returns-2 : tie.Need-returns-2 invariant-loop decreases-loop
-returns-2 c =
     let l = c.before in
     let none : left l ≡ 0 = omega arith in
-    none ∙ sym (ap length (sym l.loop.invariant.1 ∙ ap (λ (n : ℕ). trim_end (take n (text l))) none ∙ end_none (text l)))
+    none ∙ sym (ap length (sym l.loop-n.invariant.1 ∙ ap (λ (n : ℕ). trim_end (take n (text l))) none ∙ end_none (text l)))
 
-pub trimmed-length-spec : {M : Type 1} → statement M
-trimmed-length-spec =
-    tie.close
-    (tie.spec
-    invariant-loop
-    decreases-loop
-    loop-holds
-    sub-is-of
-    shared-slice-read-is-of
-    is-of-requires
-    returns
-    sub-n
-    loop-less
-    loop-again
-    returns-2)
+pub trimmed_length_spec : {M : Type 1} → statement M
+trimmed_length_spec = tie.close (tie.spec invariant-loop-n decreases-loop-n loop-n-init overflow_sub-n bounds-s-n is_of-requires returns-then-not-is_of overflow_sub-n-in-loop-n loop-n-smaller loop-n-preserved returns)

@@ -9,66 +9,54 @@ use Rattle.tries.proofs.Turns.{firsts_end, firsts_here, firsts_on, firsts_counts
 use Rattle.tries.proofs.try_each.Statement.{statement}
 use Rattle.tries.proofs.try_each.Tie as tie
 
-abbrev invariant-loop : tie.invariant-loop
-invariant-loop first places before count₀ i₀ count i = (i ≤ length places) × (tried_first first (drop i places) count ≡ tried_first first places before)
+abbrev invariant-loop-i : tie.invariant-loop-i
+invariant-loop-i first places before count₀ i₀ count i = (i ≤ length places) × (tried_first first (drop i places) count ≡ tried_first first places before)
 
-abbrev decreases-loop : tie.decreases-loop
-decreases-loop first places before count₀ i₀ count i = length places - i
+abbrev decreases-loop-i : tie.decreases-loop-i
+decreases-loop-i first places before count₀ i₀ count i = length places - i
 
-loop-holds : tie.Need-loop-init invariant-loop decreases-loop
-loop-holds c = (omega arith, refl)
+loop-i-init : tie.Need-loop-i-init invariant-loop-i decreases-loop-i
+loop-i-init c = (omega arith, refl)
 
-abbrev entry : tie.At-loop invariant-loop decreases-loop → tie.Start invariant-loop decreases-loop
+abbrev entry : tie.At-loop-i invariant-loop-i decreases-loop-i → tie.Start invariant-loop-i decreases-loop-i
 entry c = c.before.before
 
-shared-slice-read-compare : tie.Need-shared-slice-read-compare invariant-loop decreases-loop
-shared-slice-read-compare c = omega arith
+bounds-places-i : tie.Need-bounds-places-i invariant-loop-i decreases-loop-i
+bounds-places-i c = omega arith
 
-compare-requires : tie.Need-compare-requires invariant-loop decreases-loop
-compare-requires c κs =
+compare-t-requires : tie.Need-compare-t-requires invariant-loop-i decreases-loop-i
+compare-t-requires c κs =
     let s = c.before.before in
     let a = (entry s).args in
-    omega (arith, firsts_counts a.first a.places.now s.loop.i s.loop.count (omega arith), ap (λ (x : Tried). x.count) s.loop.invariant.1)
+    omega (arith, firsts_counts a.first a.places.now s.loop-i.i s.loop-i.count (omega arith), ap (λ (x : Tried). x.count) s.loop-i.invariant.1)
 
-returns : tie.Need-returns invariant-loop decreases-loop
-returns c =
-    let q = c.before.compare in
+returns-then-t : tie.Need-returns-then-t invariant-loop-i decreases-loop-i
+returns-then-t c =
+    let q = c.before.compare-t in
     let s = c.before.before.before.before in
     let a = (entry s).args in
-    firsts_here a.first a.places.now s.loop.i s.loop.count (omega arith) q.result q.ensures c.if1.true ∙ s.loop.invariant.1
+    firsts_here a.first a.places.now s.loop-i.i s.loop-i.count (omega arith) q.result q.ensures c.if-t.true ∙ s.loop-i.invariant.1
 
-add-i : tie.Need-overflow-add-i invariant-loop decreases-loop
-add-i c = omega arith
+overflow_add-i : tie.Need-overflow_add-i invariant-loop-i decreases-loop-i
+overflow_add-i c = omega arith
 
-loop-less : tie.Need-loop-smaller invariant-loop decreases-loop
-loop-less c = omega arith
+loop-i-smaller : tie.Need-loop-i-smaller invariant-loop-i decreases-loop-i
+loop-i-smaller c = omega arith
 
-loop-again : tie.Need-loop-preserved invariant-loop decreases-loop
-loop-again c =
-    let q = c.before.compare in
+loop-i-preserved : tie.Need-loop-i-preserved invariant-loop-i decreases-loop-i
+loop-i-preserved c =
+    let q = c.before.compare-t in
     let s = c.before.before.before.before in
     let a = (entry s).args in (
       omega arith,
-      sym (firsts_on a.first a.places.now s.loop.i s.loop.count (omega arith) q.result q.ensures c.if1.false) ∙ s.loop.invariant.1,
+      sym (firsts_on a.first a.places.now s.loop-i.i s.loop-i.count (omega arith) q.result q.ensures c.if-t.false) ∙ s.loop-i.invariant.1,
     )
 
-returns-2 : tie.Need-returns-2 invariant-loop decreases-loop
-returns-2 c =
+returns : tie.Need-returns invariant-loop-i decreases-loop-i
+returns c =
     let s = c.before in
     let a = (entry s).args in
-    sym (firsts_end a.first a.places.now s.loop.i s.loop.count (omega arith)) ∙ s.loop.invariant.1
+    sym (firsts_end a.first a.places.now s.loop-i.i s.loop-i.count (omega arith)) ∙ s.loop-i.invariant.1
 
-pub try-each-spec : {M : Type 1} → statement M
-try-each-spec =
-    tie.close
-    (tie.spec
-    invariant-loop
-    decreases-loop
-    loop-holds
-    shared-slice-read-compare
-    compare-requires
-    returns
-    add-i
-    loop-less
-    loop-again
-    returns-2)
+pub try_each_spec : {M : Type 1} → statement M
+try_each_spec = tie.close (tie.spec invariant-loop-i decreases-loop-i loop-i-init bounds-places-i compare-t-requires returns-then-t overflow_add-i loop-i-smaller loop-i-preserved returns)

@@ -12,108 +12,88 @@ use Rattle.tries.proofs.Turns.{firsts_within, firsts_behind, firsts_fewer}
 use Rattle.tries.proofs.try_first.Statement.{statement}
 use Rattle.tries.proofs.try_first.Tie as tie
 
-abbrev invariant-loop : tie.invariant-loop
-invariant-loop first places before count₀ i₀ count i = (i ≤ length places) × (tried_first first (drop i places) count ≡ tried_first first places before)
+abbrev invariant-loop-i : tie.invariant-loop-i
+invariant-loop-i first places before count₀ i₀ count i = (i ≤ length places) × (tried_first first (drop i places) count ≡ tried_first first places before)
 
-abbrev decreases-loop : tie.decreases-loop
-decreases-loop first places before count₀ i₀ count i = length places - i
+abbrev decreases-loop-i : tie.decreases-loop-i
+decreases-loop-i first places before count₀ i₀ count i = length places - i
 
-loop-holds : tie.Need-loop-init invariant-loop decreases-loop
-loop-holds c = (omega arith, refl)
+loop-i-init : tie.Need-loop-i-init invariant-loop-i decreases-loop-i
+loop-i-init c = (omega arith, refl)
 
-abbrev entry : tie.At-loop invariant-loop decreases-loop → tie.Start invariant-loop decreases-loop
+abbrev entry : tie.At-loop-i invariant-loop-i decreases-loop-i → tie.Start invariant-loop-i decreases-loop-i
 entry c = c.before.before
 
-sub-loop : tie.Need-overflow-sub-loop invariant-loop decreases-loop
-sub-loop c = omega arith
+overflow_sub-places : tie.Need-overflow_sub-places invariant-loop-i decreases-loop-i
+overflow_sub-places c = omega arith
 
-add-try-eight : tie.Need-overflow-add-try-eight invariant-loop decreases-loop
-add-try-eight c = omega arith
+overflow_add-i : tie.Need-overflow_add-i invariant-loop-i decreases-loop-i
+overflow_add-i c = omega arith
 
-sub-try-eight : tie.Need-overflow-sub-try-eight invariant-loop decreases-loop
-sub-try-eight c = omega arith
+slice_bounds-try_eight-count : tie.Need-slice_bounds-try_eight-count invariant-loop-i decreases-loop-i
+slice_bounds-try_eight-count c = omega arith
 
-part-try-eight-start : tie.Need-slice-bounds-try-eight-start invariant-loop decreases-loop
-part-try-eight-start c = omega arith
+slice_bounds-try_eight-start : tie.Need-slice_bounds-try_eight-start invariant-loop-i decreases-loop-i
+slice_bounds-try_eight-start c = omega arith
 
-part-try-eight-end : tie.Need-slice-bounds-try-eight-end invariant-loop decreases-loop
-part-try-eight-end c = omega arith
+slice_bounds-try_eight-end : tie.Need-slice_bounds-try_eight-end invariant-loop-i decreases-loop-i
+slice_bounds-try_eight-end c = omega arith
 
-try-eight-requires : tie.Need-try-eight-requires invariant-loop decreases-loop
-try-eight-requires c κs =
+try_eight-t-requires : tie.Need-try_eight-t-requires invariant-loop-i decreases-loop-i
+try_eight-t-requires c κs =
     let s = c.before.before in
     let a = (entry s).args in
-    let i = s.loop.i in
+    let i = s.loop-i.i in
     let d : length (drop i a.places.now) ≡ length a.places.now - i = length-drop i a.places.now in (
       length-take-le (i + 8 - i) (drop i a.places.now) (omega (arith, d)) ∙ omega arith,
-      omega (arith, firsts_fewer a.first a.places.now i (i + 8 - i) s.loop.count _ refl, ap (λ (x : Tried). x.count) s.loop.invariant.1),
+      omega (arith, firsts_fewer a.first a.places.now i (i + 8 - i) s.loop-i.count _ refl, ap (λ (x : Tried). x.count) s.loop-i.invariant.1),
     )
 
-returns : tie.Need-returns invariant-loop decreases-loop
-returns c =
-    let q = c.before.try-eight in
+returns-then-t : tie.Need-returns-then-t invariant-loop-i decreases-loop-i
+returns-then-t c =
+    let q = c.before.try_eight-t in
     let s = c.before.before.before.before in
     let a = (entry s).args in
-    let i = s.loop.i in
-    firsts_within a.first a.places.now i (i + 8 - i) s.loop.count q.result q.ensures c.if1.true ∙ s.loop.invariant.1
+    let i = s.loop-i.i in
+    firsts_within a.first a.places.now i (i + 8 - i) s.loop-i.count q.result q.ensures c.if-t.true ∙ s.loop-i.invariant.1
 
-add-i : tie.Need-overflow-add-i invariant-loop decreases-loop
-add-i c = omega arith
+overflow_add-i-in-loop-i : tie.Need-overflow_add-i-in-loop-i invariant-loop-i decreases-loop-i
+overflow_add-i-in-loop-i c = omega arith
 
-loop-less : tie.Need-loop-smaller invariant-loop decreases-loop
-loop-less c = omega arith
+loop-i-smaller : tie.Need-loop-i-smaller invariant-loop-i decreases-loop-i
+loop-i-smaller c = omega arith
 
-loop-again : tie.Need-loop-preserved invariant-loop decreases-loop
-loop-again c =
-    let q = c.before.try-eight in
+loop-i-preserved : tie.Need-loop-i-preserved invariant-loop-i decreases-loop-i
+loop-i-preserved c =
+    let q = c.before.try_eight-t in
     let s = c.before.before.before.before in
     let a = (entry s).args in
-    let i = s.loop.i in
+    let i = s.loop-i.i in
     let k : i + (i + 8 - i) ≡ i + 8 = omega arith in (
       omega arith,
-      sym (rw k at (firsts_behind a.first a.places.now i (i + 8 - i) s.loop.count q.result q.ensures c.if1.false)) ∙ s.loop.invariant.1,
+      sym (rw k at (firsts_behind a.first a.places.now i (i + 8 - i) s.loop-i.count q.result q.ensures c.if-t.false)) ∙ s.loop-i.invariant.1,
     )
 
-sub-try-each : tie.Need-overflow-sub-try-each invariant-loop decreases-loop
-sub-try-each c = omega arith
+slice_bounds-try_each-count : tie.Need-slice_bounds-try_each-count invariant-loop-i decreases-loop-i
+slice_bounds-try_each-count c = omega arith
 
-part-try-each-start : tie.Need-slice-bounds-try-each-start invariant-loop decreases-loop
-part-try-each-start c = omega arith
+slice_bounds-try_each-start : tie.Need-slice_bounds-try_each-start invariant-loop-i decreases-loop-i
+slice_bounds-try_each-start c = omega arith
 
-part-try-each-end : tie.Need-slice-bounds-try-each-end invariant-loop decreases-loop
-part-try-each-end c = omega arith
+slice_bounds-try_each-end : tie.Need-slice_bounds-try_each-end invariant-loop-i decreases-loop-i
+slice_bounds-try_each-end c = omega arith
 
-try-each-requires : tie.Need-try-each-requires invariant-loop decreases-loop
-try-each-requires c κs =
+try_each-requires : tie.Need-try_each-requires invariant-loop-i decreases-loop-i
+try_each-requires c κs =
     let s = c.before.before in
     let a = (entry s).args in
-    rw (rest_of s.loop.i a.places.now, s.loop.invariant.1) (entry s).requires
+    rw (rest_of s.loop-i.i a.places.now, s.loop-i.invariant.1) (entry s).requires
 
-returns-2 : tie.Need-returns-2 invariant-loop decreases-loop
-returns-2 c =
+returns : tie.Need-returns invariant-loop-i decreases-loop-i
+returns c =
     let s = c.before.before.before in
     let a = (entry s).args in
-    c.try-each.ensures ∙ ap (λ (l : List ℕ). tried_first a.first l s.loop.count) (rest_of s.loop.i a.places.now) ∙ s.loop.invariant.1
+    c.try_each.ensures ∙ ap (λ (l : List ℕ). tried_first a.first l s.loop-i.count) (rest_of s.loop-i.i a.places.now) ∙ s.loop-i.invariant.1
 
-pub try-first-spec : {M : Type 1} → statement M
-try-first-spec =
-    tie.close
-    (tie.spec
-    invariant-loop
-    decreases-loop
-    loop-holds
-    sub-loop
-    add-try-eight
-    sub-try-eight
-    part-try-eight-start
-    part-try-eight-end
-    try-eight-requires
-    returns
-    add-i
-    loop-less
-    loop-again
-    sub-try-each
-    part-try-each-start
-    part-try-each-end
-    try-each-requires
-    returns-2)
+pub try_first_spec : {M : Type 1} → statement M
+try_first_spec = tie.close (tie.spec invariant-loop-i decreases-loop-i loop-i-init overflow_sub-places overflow_add-i slice_bounds-try_eight-count slice_bounds-try_eight-start slice_bounds-try_eight-end try_eight-t-requires returns-then-t overflow_add-i-in-loop-i loop-i-smaller loop-i-preserved slice_bounds-try_each-count slice_bounds-try_each-start slice_bounds-try_each-end try_each-requires returns)

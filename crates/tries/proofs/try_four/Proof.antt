@@ -25,7 +25,7 @@ module _ (s : tie.Start) (i n : ℕ) (l : i < 4) (gives : from s i n ≡ whole s
   inside = omega (arith, s.requires.0)
 
   fits : n + 1 < 2 ^ 64
-  fits = omega (arith, firsts_counts s.args.first s.args.four.now i n inside, s.pre.1, ap (λ (x : Tried). x.count) gives)
+  fits = omega (arith, firsts_counts s.args.first s.args.four.now i n inside, s.requires.1, ap (λ (x : Tried). x.count) gives)
 
   module _ (x : Tried) (h : x ≡ record { stood = eqb s.args.first (get_or s.args.four.now i 0); count = n + 1 }) where
     here : x.stood ≡ true → x ≡ whole s
@@ -34,95 +34,81 @@ module _ (s : tie.Start) (i n : ℕ) (l : i < 4) (gives : from s i n ≡ whole s
     on : x.stood ≡ false → from s (i + 1) x.count ≡ whole s
     on e = sym (firsts_on s.args.first s.args.four.now i n inside x h e) ∙ gives
 
-shared-slice-read-compare : tie.Need-shared-slice-read-compare
-shared-slice-read-compare c = search rules
+bounds-four-0 : tie.Need-bounds-four-0
+bounds-four-0 c = search rules
 
-compare-requires : tie.Need-compare-requires
-compare-requires c κs = fits c.before.before 0 _ (omega arith) refl
+compare-t-requires : tie.Need-compare-t-requires
+compare-t-requires c κs = fits c.before.before 0 _ (omega arith) refl
 
-abbrev entry : tie.After-compare → tie.Start
+abbrev entry : tie.After-compare-t → tie.Start
 entry c = c.before.before.before
 
-returns : tie.Need-returns
-returns c = here (entry c.before) 0 _ (omega arith) refl _ c.before.compare.ensures c.if1.true
+returns-then-t : tie.Need-returns-then-t
+returns-then-t c = here (entry c.before) 0 _ (omega arith) refl _ c.before.compare-t.ensures c.if-t.true
 
 -- behind the first place
-module _ (c : tie.Else1) where
+module _ (c : tie.Else-t) where
   abbrev start1 : tie.Start
   start1 = entry c.before
 
-  behind1 : from start1 1 c.before.compare.result.count ≡ whole start1
-  behind1 = on start1 0 _ (omega arith) refl _ c.before.compare.ensures c.if1.false
+  behind1 : from start1 1 c.before.compare-t.result.count ≡ whole start1
+  behind1 = on start1 0 _ (omega arith) refl _ c.before.compare-t.ensures c.if-t.false
 
-shared-slice-read-compare-2 : tie.Need-shared-slice-read-compare-2
-shared-slice-read-compare-2 c = search rules
+bounds-four-1 : tie.Need-bounds-four-1
+bounds-four-1 c = search rules
 
-compare-requires-2 : tie.Need-compare-requires-2
-compare-requires-2 c κs = fits (start1 c.before) 1 _ (omega arith) (behind1 c.before)
+compare-u-requires : tie.Need-compare-u-requires
+compare-u-requires c κs = fits (start1 c.before) 1 _ (omega arith) (behind1 c.before)
 
-returns-2 : tie.Need-returns-2
-returns-2 c =
+returns-then-u : tie.Need-returns-then-u
+returns-then-u c =
     let e = c.before.before.before in
-    here (start1 e) 1 _ (omega arith) (behind1 e) _ c.before.compare2.ensures c.if2.true
+    here (start1 e) 1 _ (omega arith) (behind1 e) _ c.before.compare-u.ensures c.if-u.true
 
 -- behind the second
-module _ (c : tie.Else2) where
-  abbrev past1 : tie.Else1
+module _ (c : tie.Else-u) where
+  abbrev past1 : tie.Else-t
   past1 = c.before.before.before
 
   abbrev start2 : tie.Start
   start2 = start1 past1
 
-  behind2 : from start2 2 c.before.compare2.result.count ≡ whole start2
-  behind2 = on start2 1 _ (omega arith) (behind1 past1) _ c.before.compare2.ensures c.if2.false
+  behind2 : from start2 2 c.before.compare-u.result.count ≡ whole start2
+  behind2 = on start2 1 _ (omega arith) (behind1 past1) _ c.before.compare-u.ensures c.if-u.false
 
-shared-slice-read-compare-3 : tie.Need-shared-slice-read-compare-3
-shared-slice-read-compare-3 c = search rules
+bounds-four-2 : tie.Need-bounds-four-2
+bounds-four-2 c = search rules
 
-compare-requires-3 : tie.Need-compare-requires-3
-compare-requires-3 c κs = fits (start2 c.before) 2 _ (omega arith) (behind2 c.before)
+compare-v-requires : tie.Need-compare-v-requires
+compare-v-requires c κs = fits (start2 c.before) 2 _ (omega arith) (behind2 c.before)
 
-returns-3 : tie.Need-returns-3
-returns-3 c =
+returns-then-v : tie.Need-returns-then-v
+returns-then-v c =
     let e = c.before.before.before in
-    here (start2 e) 2 _ (omega arith) (behind2 e) _ c.before.compare3.ensures c.if3.true
+    here (start2 e) 2 _ (omega arith) (behind2 e) _ c.before.compare-v.ensures c.if-v.true
 
 -- behind the third
-module _ (c : tie.Else3) where
-  abbrev past2 : tie.Else2
+module _ (c : tie.Else-v) where
+  abbrev past2 : tie.Else-u
   past2 = c.before.before.before
 
   abbrev start3 : tie.Start
   start3 = start2 past2
 
-  behind3 : from start3 3 c.before.compare3.result.count ≡ whole start3
-  behind3 = on start3 2 _ (omega arith) (behind2 past2) _ c.before.compare3.ensures c.if3.false
+  behind3 : from start3 3 c.before.compare-v.result.count ≡ whole start3
+  behind3 = on start3 2 _ (omega arith) (behind2 past2) _ c.before.compare-v.ensures c.if-v.false
 
-shared-slice-read-compare-4 : tie.Need-shared-slice-read-compare-4
-shared-slice-read-compare-4 c = search rules
+bounds-four-3 : tie.Need-bounds-four-3
+bounds-four-3 c = search rules
 
-compare-requires-4 : tie.Need-compare-requires-4
-compare-requires-4 c κs = fits (start3 c.before) 3 _ (omega arith) (behind3 c.before)
+compare-requires : tie.Need-compare-requires
+compare-requires c κs = fits (start3 c.before) 3 _ (omega arith) (behind3 c.before)
 
-returns-4 : tie.Need-returns-4
-returns-4 c =
+returns : tie.Need-returns
+returns c =
     let e = c.before.before in
     let s = start3 e in
-    firsts_last s.args.first s.args.four.now 3 _ (omega (arith, s.pre.0)) _ c.compare4.ensures (sym s.pre.0) ∙ behind3 e
+    firsts_last s.args.first s.args.four.now 3 _ (omega (arith, s.requires.0)) _ c.compare.ensures (sym s.requires.0) ∙ behind3 e
 
-pub try-four-spec : {M : Type 1} → statement M
-try-four-spec =
-    tie.close
-    (tie.spec
-    shared-slice-read-compare
-    compare-requires
-    returns
-    shared-slice-read-compare-2
-    compare-requires-2
-    returns-2
-    shared-slice-read-compare-3
-    compare-requires-3
-    returns-3
-    shared-slice-read-compare-4
-    compare-requires-4
-    returns-4)
+pub try_four_spec : {M : Type 1} → statement M
+try_four_spec = tie.close (tie.spec bounds-four-0 compare-t-requires returns-then-t bounds-four-1 compare-u-requires returns-then-u bounds-four-2 compare-v-requires returns-then-v bounds-four-3 compare-requires returns)

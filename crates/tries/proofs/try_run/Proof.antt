@@ -12,79 +12,66 @@ use Rattle.tries.proofs.Turns.{compare_end, compare_same, compare_other, compare
 use Rattle.tries.proofs.try_run.Statement.{statement}
 use Rattle.tries.proofs.try_run.Tie as tie
 
-abbrev invariant-loop : tie.invariant-loop
-invariant-loop run rest before count₀ i₀ count i = (i ≤ length run) × (tried (drop i run) (drop i rest) count ≡ tried run rest before)
+abbrev invariant-loop-i : tie.invariant-loop-i
+invariant-loop-i run rest before count₀ i₀ count i = (i ≤ length run) × (tried (drop i run) (drop i rest) count ≡ tried run rest before)
 
-abbrev decreases-loop : tie.decreases-loop
-decreases-loop run rest before count₀ i₀ count i = length run - i
+abbrev decreases-loop-i : tie.decreases-loop-i
+decreases-loop-i run rest before count₀ i₀ count i = length run - i
 
-loop-holds : tie.Need-loop-init invariant-loop decreases-loop
-loop-holds c = (omega arith, refl)
+loop-i-init : tie.Need-loop-i-init invariant-loop-i decreases-loop-i
+loop-i-init c = (omega arith, refl)
 
-abbrev entry : tie.At-loop invariant-loop decreases-loop → tie.Start invariant-loop decreases-loop
+abbrev entry : tie.At-loop-i invariant-loop-i decreases-loop-i → tie.Start invariant-loop-i decreases-loop-i
 entry c = c.before.before.before
 
-shared-slice-read-compare : tie.Need-shared-slice-read-compare invariant-loop decreases-loop
-shared-slice-read-compare c = omega arith
+bounds-run-i : tie.Need-bounds-run-i invariant-loop-i decreases-loop-i
+bounds-run-i c = omega arith
 
-shared-slice-read-compare-2 : tie.Need-shared-slice-read-compare-2 invariant-loop decreases-loop
-shared-slice-read-compare-2 c = omega arith
+bounds-rest-i : tie.Need-bounds-rest-i invariant-loop-i decreases-loop-i
+bounds-rest-i c = omega arith
 
-compare-requires : tie.Need-compare-requires invariant-loop decreases-loop
-compare-requires c κs =
+compare-t-requires : tie.Need-compare-t-requires invariant-loop-i decreases-loop-i
+compare-t-requires c κs =
     let s = c.before.before.before in
     let a = (entry s).args in
-    let m = compare_counts a.run.now a.rest.now s.loop.i s.loop.count (omega arith) (omega arith) in
-    omega (arith, m, ap (λ (x : Tried). x.count) s.loop.invariant.1)
+    let m = compare_counts a.run.now a.rest.now s.loop-i.i s.loop-i.count (omega arith) (omega arith) in
+    omega (arith, m, ap (λ (x : Tried). x.count) s.loop-i.invariant.1)
 
-returns : tie.Need-returns invariant-loop decreases-loop
-returns c =
+returns-then-not-t : tie.Need-returns-then-not-t invariant-loop-i decreases-loop-i
+returns-then-not-t c =
     let q = c.before.before in
     let s = q.before.before.before.before in
     let a = (entry s).args in
-    let i = s.loop.i in
-    let e : eqb (get_or a.run.now i 0) (get_or a.rest.now i 0) ≡ false = sym (ap (λ (x : Tried). x.stood) q.compare.ensures) ∙ not-true _ c.if1.true in
-    q.compare.ensures
-    ∙ rw e (sym (compare_other a.run.now a.rest.now i s.loop.count (omega arith) (omega arith) (eqb-false _ _ e)))
-    ∙ s.loop.invariant.1
+    let i = s.loop-i.i in
+    let e : eqb (get_or a.run.now i 0) (get_or a.rest.now i 0) ≡ false = sym (ap (λ (x : Tried). x.stood) q.compare-t.ensures) ∙ not-true _ c.if-not-t.true in
+    q.compare-t.ensures
+    ∙ rw e (sym (compare_other a.run.now a.rest.now i s.loop-i.count (omega arith) (omega arith) (eqb-false _ _ e)))
+    ∙ s.loop-i.invariant.1
 
-add-i : tie.Need-overflow-add-i invariant-loop decreases-loop
-add-i c = omega arith
+overflow_add-i : tie.Need-overflow_add-i invariant-loop-i decreases-loop-i
+overflow_add-i c = omega arith
 
-loop-less : tie.Need-loop-smaller invariant-loop decreases-loop
-loop-less c = omega arith
+loop-i-smaller : tie.Need-loop-i-smaller invariant-loop-i decreases-loop-i
+loop-i-smaller c = omega arith
 
-loop-again : tie.Need-loop-preserved invariant-loop decreases-loop
-loop-again c =
+loop-i-preserved : tie.Need-loop-i-preserved invariant-loop-i decreases-loop-i
+loop-i-preserved c =
     let q = c.before.before in
     let s = q.before.before.before.before in
     let a = (entry s).args in
-    let i = s.loop.i in
-    let e : eqb (get_or a.run.now i 0) (get_or a.rest.now i 0) ≡ true = sym (ap (λ (x : Tried). x.stood) q.compare.ensures) ∙ not-false _ c.if1.false in (
+    let i = s.loop-i.i in
+    let e : eqb (get_or a.run.now i 0) (get_or a.rest.now i 0) ≡ true = sym (ap (λ (x : Tried). x.stood) q.compare-t.ensures) ∙ not-false _ c.if-not-t.false in (
       omega arith,
-      ap (λ (x : Tried). tried (drop (i + 1) a.run.now) (drop (i + 1) a.rest.now) x.count) q.compare.ensures
-          ∙ sym (compare_same a.run.now a.rest.now i s.loop.count (omega arith) (omega arith) (eqb-true _ _ e))
-          ∙ s.loop.invariant.1,
+      ap (λ (x : Tried). tried (drop (i + 1) a.run.now) (drop (i + 1) a.rest.now) x.count) q.compare-t.ensures
+          ∙ sym (compare_same a.run.now a.rest.now i s.loop-i.count (omega arith) (omega arith) (eqb-true _ _ e))
+          ∙ s.loop-i.invariant.1,
     )
 
-returns-2 : tie.Need-returns-2 invariant-loop decreases-loop
-returns-2 c =
+returns : tie.Need-returns invariant-loop-i decreases-loop-i
+returns c =
     let s = c.before in
     let a = (entry s).args in
-    sym (compare_end a.run.now (drop s.loop.i a.rest.now) s.loop.i s.loop.count (omega arith)) ∙ s.loop.invariant.1
+    sym (compare_end a.run.now (drop s.loop-i.i a.rest.now) s.loop-i.i s.loop-i.count (omega arith)) ∙ s.loop-i.invariant.1
 
-pub try-run-spec : {M : Type 1} → statement M
-try-run-spec =
-    tie.close
-    (tie.spec
-    invariant-loop
-    decreases-loop
-    loop-holds
-    shared-slice-read-compare
-    shared-slice-read-compare-2
-    compare-requires
-    returns
-    add-i
-    loop-less
-    loop-again
-    returns-2)
+pub try_run_spec : {M : Type 1} → statement M
+try_run_spec = tie.close (tie.spec invariant-loop-i decreases-loop-i loop-i-init bounds-run-i bounds-rest-i compare-t-requires returns-then-not-t overflow_add-i loop-i-smaller loop-i-preserved returns)

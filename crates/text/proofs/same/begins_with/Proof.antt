@@ -12,30 +12,30 @@ use Rattle.text.proofs.Comparing.{begins_from, case_short, case_other, case_on, 
 use Rattle.text.proofs.same.begins_with.Statement.{statement}
 use Rattle.text.proofs.same.begins_with.Tie as tie
 
-abbrev invariant-loop : tie.invariant-loop
-invariant-loop classes s word i₀ i = (length word ≤ length s) × (begins_from i s word ≡ same_ignoring_case (take (length word) s) word)
+abbrev invariant-loop-i : tie.invariant-loop-i
+invariant-loop-i classes s word i₀ i = (length word ≤ length s) × (begins_from i s word ≡ same_ignoring_case (take (length word) s) word)
 
-abbrev decreases-loop : tie.decreases-loop
-decreases-loop classes s word i₀ i = length word - i
+abbrev decreases-loop-i : tie.decreases-loop-i
+decreases-loop-i classes s word i₀ i = length word - i
 
-returns : tie.Need-returns invariant-loop decreases-loop
-returns c = let a = c.before.before.before.args in case_short a.s.now a.word.now c.if1.true
+returns-then-s-word : tie.Need-returns-then-s-word invariant-loop-i decreases-loop-i
+returns-then-s-word c = let a = c.before.before.before.args in case_short a.s.now a.word.now c.if-s-word.true
 
-loop-holds : tie.Need-loop-init invariant-loop decreases-loop
+loop-i-init : tie.Need-loop-i-init invariant-loop-i decreases-loop-i
 unfolding same_ignoring_case
-loop-holds c = (omega arith, refl)
+loop-i-init c = (omega arith, refl)
 
-shared-slice-read-is-same : tie.Need-shared-slice-read-is-same invariant-loop decreases-loop
-shared-slice-read-is-same c = omega arith
+bounds-s-i : tie.Need-bounds-s-i invariant-loop-i decreases-loop-i
+bounds-s-i c = omega arith
 
-shared-slice-read-is-same-2 : tie.Need-shared-slice-read-is-same-2 invariant-loop decreases-loop
-shared-slice-read-is-same-2 c = omega arith
+bounds-word-i : tie.Need-bounds-word-i invariant-loop-i decreases-loop-i
+bounds-word-i c = omega arith
 
-is-same-requires : tie.Need-is-same-requires invariant-loop decreases-loop
-is-same-requires c κs = search rules
+is_same-requires : tie.Need-is_same-requires invariant-loop-i decreases-loop-i
+is_same-requires c κs = search rules
 
 -- the text and the word, and where the comparison has come to
-module _ (l : tie.At-loop invariant-loop decreases-loop) where
+module _ (l : tie.At-loop-i invariant-loop-i decreases-loop-i) where
   abbrev text : List ℕ
   text = l.before.before.before.before.args.s.now
 
@@ -43,11 +43,11 @@ module _ (l : tie.At-loop invariant-loop decreases-loop) where
   word = l.before.before.before.before.args.word.now
 
   abbrev here : ℕ
-  here = l.loop.i
+  here = l.loop-i.i
 
 -- the two octets there, compared
-module _ (c : tie.After-is-same invariant-loop decreases-loop) where
-  abbrev loop : tie.At-loop invariant-loop decreases-loop
+module _ (c : tie.After-is_same invariant-loop-i decreases-loop-i) where
+  abbrev loop : tie.At-loop-i invariant-loop-i decreases-loop-i
   loop = c.before.before.before.before
 
   abbrev first : ℕ
@@ -56,43 +56,29 @@ module _ (c : tie.After-is-same invariant-loop decreases-loop) where
   abbrev second : ℕ
   second = lower_case (get_or (word loop) (here loop) 0)
 
-returns-2 : tie.Need-returns-2 invariant-loop decreases-loop
-returns-2 c =
+returns-then-not-is_same : tie.Need-returns-then-not-is_same invariant-loop-i decreases-loop-i
+returns-then-not-is_same c =
     let b = c.before in
     let l = loop b in
-    let other = eqb-false (first b) (second b) (sym b.is_same.ensures ∙ not-true b.is_same.result c.if2.true) in
-    sym (case_other (text l) (word l) l.loop.inv.0 (here l) (omega arith) other) ∙ l.loop.inv.1
+    let other = eqb-false (first b) (second b) (sym b.is_same.ensures ∙ c.if-not-is_same.true) in
+    sym (case_other (text l) (word l) l.loop-i.invariant.0 (here l) (omega arith) other) ∙ l.loop-i.invariant.1
 
-add-i : tie.Need-overflow-add-i invariant-loop decreases-loop
-add-i c = omega arith
+overflow_add-i : tie.Need-overflow_add-i invariant-loop-i decreases-loop-i
+overflow_add-i c = omega arith
 
-loop-less : tie.Need-loop-smaller invariant-loop decreases-loop
-loop-less c = omega arith
+loop-i-smaller : tie.Need-loop-i-smaller invariant-loop-i decreases-loop-i
+loop-i-smaller c = omega arith
 
-loop-again : tie.Need-loop-preserved invariant-loop decreases-loop
-loop-again c =
+loop-i-preserved : tie.Need-loop-i-preserved invariant-loop-i decreases-loop-i
+loop-i-preserved c =
     let b = c.before in
     let l = loop b in
-    let one = eqb-true (first b) (second b) (sym b.is_same.ensures ∙ not-false b.is_same.result c.if2.false) in
-    (l.loop.inv.0, sym (case_on (text l) (word l) l.loop.inv.0 (here l) (omega arith) one) ∙ l.loop.inv.1)
+    let one = eqb-true (first b) (second b) (sym b.is_same.ensures ∙ c.if-not-is_same.false) in
+    (l.loop-i.invariant.0, sym (case_on (text l) (word l) l.loop-i.invariant.0 (here l) (omega arith) one) ∙ l.loop-i.invariant.1)
 
-returns-3 : tie.Need-returns-3 invariant-loop decreases-loop
-returns-3 c =
-    let l = c.before in sym (case_end (text l) (word l) l.loop.invariant.0 (here l) (omega arith)) ∙ l.loop.invariant.1
+returns : tie.Need-returns invariant-loop-i decreases-loop-i
+returns c =
+    let l = c.before in sym (case_end (text l) (word l) l.loop-i.invariant.0 (here l) (omega arith)) ∙ l.loop-i.invariant.1
 
-pub begins-with-spec : {M : Type 1} → statement M
-begins-with-spec =
-    tie.close
-    (tie.spec
-    invariant-loop
-    decreases-loop
-    returns
-    loop-holds
-    shared-slice-read-is-same
-    shared-slice-read-is-same-2
-    is-same-requires
-    returns-2
-    add-i
-    loop-less
-    loop-again
-    returns-3)
+pub begins_with_spec : {M : Type 1} → statement M
+begins_with_spec = tie.close (tie.spec invariant-loop-i decreases-loop-i returns-then-s-word loop-i-init bounds-s-i bounds-word-i is_same-requires returns-then-not-is_same overflow_add-i loop-i-smaller loop-i-preserved returns)
