@@ -6,15 +6,14 @@ use Rattle.fields.proofs.Heads.{colon_here, colon_end}
 use Rattle.fields.proofs.colon_at.Statement.{statement}
 use Rattle.fields.proofs.colon_at.Tie as tie
 
+returns-then-s-i : tie.Need-returns-then-s-i
+returns-then-s-i c = let a = c.before.args in sym (colon_end a.s.now a.at.offset c.if-s-i.true)
+
+bounds-s-i : tie.Need-bounds-s-i
+bounds-s-i c = search rules
+
 returns : tie.Need-returns
-returns c = let a = c.before.args in sym (colon_end a.s.now a.at.offset c.if1.true)
+returns c = let a = c.before.before.args in sym (colon_here a.s.now a.at.offset (omega arith))
 
-shared-slice-read-result : tie.Need-shared-slice-read-result
-shared-slice-read-result c = search rules
-
-returns-2 : tie.Need-returns-2
-returns-2 c = let a = c.before.before.args in sym (colon_here a.s.now a.at.offset (omega arith))
-
-pub colon-at-spec : {M : Type 1} → statement M
-colon-at-spec =
-    tie.close (tie.spec returns shared-slice-read-result returns-2)
+pub colon_at_spec : {M : Type 1} → statement M
+colon_at_spec = tie.close (tie.spec returns-then-s-i bounds-s-i returns)

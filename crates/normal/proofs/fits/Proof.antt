@@ -10,17 +10,17 @@ use Rattle.normal.specs.Sizes.{size_within}
 use Rattle.normal.proofs.fits.Statement.{statement}
 use Rattle.normal.proofs.fits.Tie as tie
 
-returns : tie.Need-returns
-returns c =
+returns-then-s-room : tie.Need-returns-then-s-room
+returns-then-s-room c =
     let a = c.before.before.args in
     sym (le-leb (length (normal a.stars 0 a.s.now)) a.room (omega (arith, normal_size a.stars 0 a.s.now)))
 
-size-within-requires : tie.Need-size-within-requires
-size-within-requires c κs = tt
+size_within-size-requires : tie.Need-size_within-size-requires
+size_within-size-requires c κs = tt
 
-returns-2 : tie.Need-returns-2
+returns : tie.Need-returns
 unfolding size_within
-returns-2 c = ap (λ (r : Size). r.fits) c.size-within.ensures
+returns c = ap (λ (r : Size). r.fits) c.size_within-size.ensures
 
-pub fits-spec : {M : Type 1} → statement M
-fits-spec = tie.close (tie.spec returns size-within-requires returns-2)
+pub fits_spec : {M : Type 1} → statement M
+fits_spec = tie.close (tie.spec returns-then-s-room size_within-size-requires returns)

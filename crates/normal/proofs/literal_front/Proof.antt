@@ -6,11 +6,11 @@ use Rattle.protocol.specs.declared.Place.{Place}
 use Rattle.normal.proofs.literal_front.Statement.{statement}
 use Rattle.normal.proofs.literal_front.Tie as tie
 
-seek-requires : tie.Need-seek-requires
-seek-requires c κs = search rules
+seek-end-requires : tie.Need-seek-end-requires
+seek-end-requires c κs = search rules
 
 returns : tie.Need-returns
-returns c = ap (λ (p : Place). p.offset) c.seek.ensures ∙ zero-add _
+returns c = ap (λ (p : Place). p.offset) c.seek-end.ensures ∙ zero-add _
 
-pub literal-front-spec : {M : Type 1} → statement M
-literal-front-spec = tie.close (tie.spec seek-requires returns)
+pub literal_front_spec : {M : Type 1} → statement M
+literal_front_spec = tie.close (tie.spec seek-end-requires returns)

@@ -17,76 +17,63 @@ use Rattle.normal.proofs.Literal.{encoded_other}
 use Rattle.normal.proofs.may_change.Statement.{statement}
 use Rattle.normal.proofs.may_change.Tie as tie
 
-abbrev invariant-loop : tie.invariant-loop
-invariant-loop path i₀ i = (i ≤ length path) × (any (is_encoded false) (drop i path) ≡ any (is_encoded false) path)
+abbrev invariant-loop-i : tie.invariant-loop-i
+invariant-loop-i path i₀ i = (i ≤ length path) × (any (is_encoded false) (drop i path) ≡ any (is_encoded false) path)
 
-abbrev decreases-loop : tie.decreases-loop
-decreases-loop path i₀ i = length path - i
+abbrev decreases-loop-i : tie.decreases-loop-i
+decreases-loop-i path i₀ i = length path - i
 
-clear-front-requires : tie.Need-clear-front-requires invariant-loop decreases-loop
-clear-front-requires c κs = omega arith
+clear_front-i-requires : tie.Need-clear_front-i-requires invariant-loop-i decreases-loop-i
+clear_front-i-requires c κs = omega arith
 
-module _ (c : tie.Joined1 invariant-loop decreases-loop) where
+module _ (c : tie.Joined-path-ge8 invariant-loop-i decreases-loop-i) where
   abbrev whole : List ℕ
   whole = c.before.before.args.path.now
 
   -- no octet that isn't literal is passed over
-  clear : c.if1.i ≤ length (up_to not_literal whole)
-  clear = ⊎_elim (λ t. omega (arith, t.2, t.1.ensures)) (λ t. omega (arith, t.1)) c.if1.branch
+  clear : c.if-path-ge8.i ≤ length (up_to not_literal whole)
+  clear = ⊎_elim (λ t. omega (arith, t.2, t.1.ensures)) (λ t. omega (arith, t.1)) c.if-path-ge8.branch
 
-loop-holds : tie.Need-loop-init invariant-loop decreases-loop
-loop-holds c =
+loop-i-init : tie.Need-loop-i-init invariant-loop-i decreases-loop-i
+loop-i-init c =
     (omega (arith, clear c, up_to_fits not_literal (whole c)), any_behind (is_encoded false) not_literal encoded_other _ (whole c) (clear c))
 
-shared-slice-read-is-kept : tie.Need-shared-slice-read-is-kept invariant-loop decreases-loop
-shared-slice-read-is-kept c = omega arith
+bounds-path-i : tie.Need-bounds-path-i invariant-loop-i decreases-loop-i
+bounds-path-i c = omega arith
 
-is-kept-requires : tie.Need-is-kept-requires invariant-loop decreases-loop
-is-kept-requires c κs = tt
+is_kept-requires : tie.Need-is_kept-requires invariant-loop-i decreases-loop-i
+is_kept-requires c κs = tt
 
-module _ (c : tie.At-loop invariant-loop decreases-loop) where
+module _ (c : tie.At-loop-i invariant-loop-i decreases-loop-i) where
   abbrev path : List ℕ
   path = whole c.before
 
   abbrev i : ℕ
-  i = c.loop.i
+  i = c.loop-i.i
 
-returns : tie.Need-returns invariant-loop decreases-loop
-returns c =
+returns-then-not-is_kept : tie.Need-returns-then-not-is_kept invariant-loop-i decreases-loop-i
+returns-then-not-is_kept c =
     let s = c.before.before.before.before in
-    let e : is_encoded false (get_or (path s) (i s) 0) ≡ true = not-false _ (sym c.before.is-kept.ensures ∙ not-true _ c.if2.true) in
-    sym (any_here (is_encoded false) (path s) (i s) 0 (omega arith) e) ∙ s.loop.invariant.1
+    let e : is_encoded false (get_or (path s) (i s) 0) ≡ true = not-false _ (sym c.before.is_kept.ensures ∙ c.if-not-is_kept.true) in
+    sym (any_here (is_encoded false) (path s) (i s) 0 (omega arith) e) ∙ s.loop-i.invariant.1
 
-add-i : tie.Need-overflow-add-i invariant-loop decreases-loop
-add-i c = omega arith
+overflow_add-i : tie.Need-overflow_add-i invariant-loop-i decreases-loop-i
+overflow_add-i c = omega arith
 
-loop-less : tie.Need-loop-smaller invariant-loop decreases-loop
-loop-less c = omega arith
+loop-i-smaller : tie.Need-loop-i-smaller invariant-loop-i decreases-loop-i
+loop-i-smaller c = omega arith
 
-loop-again : tie.Need-loop-preserved invariant-loop decreases-loop
-loop-again c =
+loop-i-preserved : tie.Need-loop-i-preserved invariant-loop-i decreases-loop-i
+loop-i-preserved c =
     let b = c.before in
     let s = b.before.before.before.before in
-    let e : is_encoded false (get_or (path s) (i s) 0) ≡ false = not-true _ (sym b.before.is-kept.ensures ∙ not-false _ b.if2.false) in
-    (omega arith, sym (any_on (is_encoded false) (path s) (i s) 0 (omega arith) e) ∙ s.loop.invariant.1)
+    let e : is_encoded false (get_or (path s) (i s) 0) ≡ false = not-true _ (sym b.before.is_kept.ensures ∙ b.if-not-is_kept.false) in
+    (omega arith, sym (any_on (is_encoded false) (path s) (i s) 0 (omega arith) e) ∙ s.loop-i.invariant.1)
 
-returns-2 : tie.Need-returns-2 invariant-loop decreases-loop
-returns-2 c =
+returns : tie.Need-returns invariant-loop-i decreases-loop-i
+returns c =
     let s = c.before in
-    sym (any_end (is_encoded false) (path s) (i s) (omega arith)) ∙ s.loop.invariant.1
+    sym (any_end (is_encoded false) (path s) (i s) (omega arith)) ∙ s.loop-i.invariant.1
 
-pub may-change-spec : {M : Type 1} → statement M
-may-change-spec =
-    tie.close
-    (tie.spec
-    invariant-loop
-    decreases-loop
-    clear-front-requires
-    loop-holds
-    shared-slice-read-is-kept
-    is-kept-requires
-    returns
-    add-i
-    loop-less
-    loop-again
-    returns-2)
+pub may_change_spec : {M : Type 1} → statement M
+may_change_spec = tie.close (tie.spec invariant-loop-i decreases-loop-i clear_front-i-requires loop-i-init bounds-path-i is_kept-requires returns-then-not-is_kept overflow_add-i loop-i-smaller loop-i-preserved returns)

@@ -20,23 +20,22 @@ module _ (c : tie.After-fits2) where
   told : leb (length (normal entry.args.stars 0 entry.args.run.now)) (length entry.args.scratch.now) ≡ c.fits2.result
   told = sym c.fits2.ensures
 
+returns-then-not-fits : tie.Need-returns-then-not-fits
+unfolding run_of run_scratch
+returns-then-not-fits c = rw (told c.before ∙ not-true _ c.if-not-fits.true) (refl, refl)
+
+write-n-requires : tie.Need-write-n-requires
+write-n-requires c κs = leb-true _ _ (told c.before.before ∙ not-false _ c.before.if-not-fits.false)
+
+shape_of-scratch : tie.Need-shape_of-scratch
+shape_of-scratch c = search rules
+
 returns : tie.Need-returns
 unfolding run_of run_scratch
-returns c = rw (told c.before ∙ not-true _ c.if1.true) (refl, refl)
-
-write-requires : tie.Need-write-requires
-write-requires c κs = leb-true _ _ (told c.before.before ∙ not-false _ c.before.if1.false)
-
-same_length : tie.Need-same-length
-same_length c = search rules
-
-returns-2 : tie.Need-returns-2
-unfolding run_of run_scratch
-returns-2 c =
+returns c =
     let w = c.before.before in
     let l = w.before.before in
-    rw (told l.before ∙ not-false _ l.if1.false, w.write.ensures.0, w.write.ensures.1) (refl, refl)
+    rw (told l.before ∙ not-false _ l.if-not-fits.false, w.write-n.ensures.0, w.write-n.ensures.1) (refl, refl)
 
-pub normalise-run-spec : {M : Type 1} → statement M
-normalise-run-spec =
-    tie.close (tie.spec fits-requires returns write-requires same_length returns-2)
+pub normalise_run_spec : {M : Type 1} → statement M
+normalise_run_spec = tie.close (tie.spec fits-requires returns-then-not-fits write-n-requires shape_of-scratch returns)

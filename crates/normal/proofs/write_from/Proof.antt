@@ -12,103 +12,83 @@ use Rattle.normal.proofs.Steps.{normal_end, Turn, turn, normal_on, Stores, store
 use Rattle.normal.proofs.write_from.Statement.{statement}
 use Rattle.normal.proofs.write_from.Tie as tie
 
-abbrev invariant-loop : tie.invariant-loop
-invariant-loop stars s out₀ classes n₀ i₀ out n i = Stores out₀ (normal stars 0 (drop i₀ s)) n₀ out (normal stars 0 (drop i s)) n
+abbrev invariant-loop-i : tie.invariant-loop-i
+invariant-loop-i stars s out₀ classes n₀ i₀ out n i = Stores out₀ (normal stars 0 (drop i₀ s)) n₀ out (normal stars 0 (drop i s)) n
 
-abbrev decreases-loop : tie.decreases-loop
-decreases-loop stars s out₀ classes n₀ i₀ out n i = length s - i
+abbrev decreases-loop-i : tie.decreases-loop-i
+decreases-loop-i stars s out₀ classes n₀ i₀ out n i = length s - i
 
-classes-requires : tie.Need-classes-requires invariant-loop decreases-loop
-classes-requires c κs = tt
+classes-classes-requires : tie.Need-classes-classes-requires invariant-loop-i decreases-loop-i
+classes-classes-requires c κs = tt
 
-loop-holds : tie.Need-loop-init invariant-loop decreases-loop
-loop-holds c = record { end = refl; size = refl; same = refl }
+loop-i-init : tie.Need-loop-i-init invariant-loop-i decreases-loop-i
+loop-i-init c = record { end = refl; size = refl; same = refl }
 
-shared-slice-read-x : tie.Need-shared-slice-read-x invariant-loop decreases-loop
-shared-slice-read-x c = omega arith
+bounds-s-i : tie.Need-bounds-s-i invariant-loop-i decreases-loop-i
+bounds-s-i c = omega arith
 
-is-kept-requires : tie.Need-is-kept-requires invariant-loop decreases-loop
-is-kept-requires c κs = tt
+is_kept-requires : tie.Need-is_kept-requires invariant-loop-i decreases-loop-i
+is_kept-requires c κs = tt
 
-abbrev entry : tie.At-loop invariant-loop decreases-loop → tie.Start invariant-loop decreases-loop
+abbrev entry : tie.At-loop-i invariant-loop-i decreases-loop-i → tie.Start invariant-loop-i decreases-loop-i
 entry c = c.before.before.before.before
 
 -- an octet that stays
-loop-again : tie.Need-loop-preserved invariant-loop decreases-loop
-loop-again c =
+loop-i-preserved-then-is_kept : tie.Need-loop-i-preserved-then-is_kept invariant-loop-i decreases-loop-i
+loop-i-preserved-then-is_kept c =
     let s = c.before.before.before.before in
     let a = (entry s).args in
-    store_on s.loop.invariant (_ ∷ []) _ (normal_on a.stars a.s.now s.loop.i (omega arith) (sym c.before.is-kept.ensures ∙ c.if1.true))
+    store_on s.loop-i.invariant (_ ∷ []) _ (normal_on a.stars a.s.now s.loop-i.i (omega arith) (sym c.before.is_kept.ensures ∙ c.if-is_kept.true))
 
-slice-write-out : tie.Need-slice-write-out invariant-loop decreases-loop
-slice-write-out c = omega (arith, loop-again c)
+bounds-out-n : tie.Need-bounds-out-n invariant-loop-i decreases-loop-i
+bounds-out-n c = omega (arith, loop-i-preserved-then-is_kept c)
 
-add-n : tie.Need-overflow-add-n invariant-loop decreases-loop
-add-n c = omega (arith, loop-again c)
+overflow_add-n : tie.Need-overflow_add-n invariant-loop-i decreases-loop-i
+overflow_add-n c = omega (arith, loop-i-preserved-then-is_kept c)
 
-add-i : tie.Need-overflow-add-i invariant-loop decreases-loop
-add-i c = omega arith
+overflow_add-i : tie.Need-overflow_add-i invariant-loop-i decreases-loop-i
+overflow_add-i c = omega arith
 
-loop-less : tie.Need-loop-smaller invariant-loop decreases-loop
-loop-less c = omega arith
+loop-i-smaller-then-is_kept : tie.Need-loop-i-smaller-then-is_kept invariant-loop-i decreases-loop-i
+loop-i-smaller-then-is_kept c = omega arith
 
 -- what stands for one that doesn't
-module _ (c : tie.After-changed-at invariant-loop decreases-loop) where
-  abbrev at : tie.At-loop invariant-loop decreases-loop
+module _ (c : tie.After-changed_at-p invariant-loop-i decreases-loop-i) where
+  abbrev at : tie.At-loop-i invariant-loop-i decreases-loop-i
   at = c.before.before.before.before.before.before
 
-  changed : Turn (entry at).args.stars (entry at).args.s.now at.loop.i (octets_of c.changed-at.result) c.changed-at.result.taken
+  changed : Turn (entry at).args.stars (entry at).args.s.now at.loop-i.i (octets_of c.changed_at-p.result) c.changed_at-p.result.taken
   changed =
       let k = c.before.before in
-      let r = replacement_changed _ _ _ _ (sym k.before.is-kept.ensures ∙ k.if1.false) c.changed-at.ensures in
-      turn (entry at).args.stars (entry at).args.s.now at.loop.i (omega arith) _ _ r.octets r.taken
+      let r = replacement_changed _ _ _ _ (sym k.before.is_kept.ensures ∙ k.if-is_kept.false) c.changed_at-p.ensures in
+      turn (entry at).args.stars (entry at).args.s.now at.loop-i.i (omega arith) _ _ r.octets r.taken
 
-changed-at-requires : tie.Need-changed-at-requires invariant-loop decreases-loop
-changed-at-requires c κs = (search rules, omega arith)
+changed_at-p-requires : tie.Need-changed_at-p-requires invariant-loop-i decreases-loop-i
+changed_at-p-requires c κs = (search rules, omega arith)
 
-put-requires : tie.Need-put-requires invariant-loop decreases-loop
-put-requires c κs = omega (arith, changed c.before)
+put-n-requires : tie.Need-put-n-requires invariant-loop-i decreases-loop-i
+put-n-requires c κs = omega (arith, changed c.before)
 
-abbrev replaced : tie.After-struct-known invariant-loop decreases-loop → tie.After-changed-at invariant-loop decreases-loop
+abbrev replaced : tie.After-struct_known-1 invariant-loop-i decreases-loop-i → tie.After-changed_at-p invariant-loop-i decreases-loop-i
 replaced c = c.before.before.before.before.before
 
-add-i-2 : tie.Need-overflow-add-i-2 invariant-loop decreases-loop
-add-i-2 c = omega (arith, changed (replaced c))
+overflow_add-i-else-is_kept : tie.Need-overflow_add-i-else-is_kept invariant-loop-i decreases-loop-i
+overflow_add-i-else-is_kept c = omega (arith, changed (replaced c))
 
-loop-less-2 : tie.Need-loop-smaller-2 invariant-loop decreases-loop
-loop-less-2 c = omega (arith, changed (replaced c))
+loop-i-smaller : tie.Need-loop-i-smaller invariant-loop-i decreases-loop-i
+loop-i-smaller c = omega (arith, changed (replaced c))
 
-loop-again-2 : tie.Need-loop-preserved-2 invariant-loop decreases-loop
-loop-again-2 c =
+loop-i-preserved : tie.Need-loop-i-preserved invariant-loop-i decreases-loop-i
+loop-i-preserved c =
     let p = replaced c in
-    let w = c.before.before.before.put in
-    rw (w.ensures.0, w.ensures.1) (store_on (at p).loop.inv (octets_of p.changed-at.result) _ (changed p).on)
+    let w = c.before.before.before.put-n in
+    rw (w.ensures.0, w.ensures.1) (store_on (at p).loop-i.invariant (octets_of p.changed_at-p.result) _ (changed p).on)
 
-same_length : tie.Need-same-length invariant-loop decreases-loop
-same_length c = c.before.loop.invariant.size
+shape_of-out : tie.Need-shape_of-out invariant-loop-i decreases-loop-i
+shape_of-out c = c.before.loop-i.invariant.size
 
-returns : tie.Need-returns invariant-loop decreases-loop
-returns c = all_stored c.before.loop.invariant (normal_end _ _ _ c.loop-test.false)
+returns : tie.Need-returns invariant-loop-i decreases-loop-i
+returns c = all_stored c.before.loop-i.invariant (normal_end _ _ _ c.loop-i-test.false)
 
-pub write-from-spec : {M : Type 1} → statement M
-write-from-spec =
-    tie.close
-    (tie.spec
-    invariant-loop
-    decreases-loop
-    classes-requires
-    loop-holds
-    shared-slice-read-x
-    is-kept-requires
-    slice-write-out
-    add-n
-    add-i
-    loop-less
-    loop-again
-    changed-at-requires
-    put-requires
-    add-i-2
-    loop-less-2
-    loop-again-2
-    same_length
-    returns)
+pub write_from_spec : {M : Type 1} → statement M
+write_from_spec = tie.close (tie.spec invariant-loop-i decreases-loop-i classes-classes-requires loop-i-init bounds-s-i is_kept-requires bounds-out-n overflow_add-n overflow_add-i loop-i-smaller-then-is_kept loop-i-preserved-then-is_kept changed_at-p-requires put-n-requires overflow_add-i-else-is_kept loop-i-smaller loop-i-preserved shape_of-out returns)

@@ -11,85 +11,71 @@ use Rattle.normal.proofs.Steps.{copy_on, Stores, store_on, all_stored}
 use Rattle.normal.proofs.write_literal.Statement.{statement}
 use Rattle.normal.proofs.write_literal.Tie as tie
 
-abbrev invariant-loop : tie.invariant-loop
-invariant-loop s out₀ n i₀ out i = (i ≤ n) × Stores out₀ (take n s) 0 out (drop i (take n s)) i
+abbrev invariant-loop-i : tie.invariant-loop-i
+invariant-loop-i s out₀ n i₀ out i = (i ≤ n) × Stores out₀ (take n s) 0 out (drop i (take n s)) i
 
-abbrev decreases-loop : tie.decreases-loop
-decreases-loop s out₀ n i₀ out i = n - i
+abbrev decreases-loop-i : tie.decreases-loop-i
+decreases-loop-i s out₀ n i₀ out i = n - i
 
-returns : tie.Need-returns invariant-loop decreases-loop
+returns-then-s-lt16 : tie.Need-returns-then-s-lt16 invariant-loop-i decreases-loop-i
 unfolding all
-returns c = (omega arith, refl, refl)
+returns-then-s-lt16 c = (omega arith, refl, refl)
 
-literal-front-requires : tie.Need-literal-front-requires invariant-loop decreases-loop
-literal-front-requires c κs = tt
+literal_front-n-requires : tie.Need-literal_front-n-requires invariant-loop-i decreases-loop-i
+literal_front-n-requires c κs = tt
 
-module _ (c : tie.After-literal-front invariant-loop decreases-loop) where
-  abbrev start : tie.Start invariant-loop decreases-loop
+module _ (c : tie.After-literal_front-n invariant-loop-i decreases-loop-i) where
+  abbrev start : tie.Start invariant-loop-i decreases-loop-i
   start = c.before.before.before.before
 
   abbrev text : List ℕ
   text = start.args.s.now
 
   abbrev n : ℕ
-  n = c.literal-front.result
+  n = c.literal_front-n.result
 
   inside : n ≤ length text
-  inside = (front_known text n c.literal-front.ensures).0
+  inside = (front_known text n c.literal_front-n.ensures).0
 
   room : n ≤ length start.args.out.now
-  room = omega (arith, c.literal-front.ensures, start.pre)
+  room = omega (arith, c.literal_front-n.ensures, start.requires)
 
-loop-holds : tie.Need-loop-init invariant-loop decreases-loop
-loop-holds c = (omega arith, record { end = refl; size = refl; same = refl })
+loop-i-init : tie.Need-loop-i-init invariant-loop-i decreases-loop-i
+loop-i-init c = (omega arith, record { end = refl; size = refl; same = refl })
 
 -- in a turn
-module _ (c : tie.After-shared-slice-known2 invariant-loop decreases-loop) where
-  abbrev at : tie.At-loop invariant-loop decreases-loop
+module _ (c : tie.After-shared_slice_known-in-loop-i-1 invariant-loop-i decreases-loop-i) where
+  abbrev at : tie.At-loop-i invariant-loop-i decreases-loop-i
   at = c.before.before
 
-  abbrev sought : tie.After-literal-front invariant-loop decreases-loop
+  abbrev sought : tie.After-literal_front-n invariant-loop-i decreases-loop-i
   sought = at.before
 
-shared-slice-read-out : tie.Need-shared-slice-read-out invariant-loop decreases-loop
-shared-slice-read-out c = omega (arith, inside (sought c))
+bounds-s-i : tie.Need-bounds-s-i invariant-loop-i decreases-loop-i
+bounds-s-i c = omega (arith, inside (sought c))
 
-slice-write-out : tie.Need-slice-write-out invariant-loop decreases-loop
-slice-write-out c = omega (arith, room (sought c), (at c).loop.invariant.1.size)
+bounds-out-i : tie.Need-bounds-out-i invariant-loop-i decreases-loop-i
+bounds-out-i c = omega (arith, room (sought c), (at c).loop-i.invariant.1.size)
 
-add-i : tie.Need-overflow-add-i invariant-loop decreases-loop
-add-i c = omega (arith, inside (sought c))
+overflow_add-i : tie.Need-overflow_add-i invariant-loop-i decreases-loop-i
+overflow_add-i c = omega (arith, inside (sought c))
 
-loop-less : tie.Need-loop-smaller invariant-loop decreases-loop
-loop-less c = omega arith
+loop-i-smaller : tie.Need-loop-i-smaller invariant-loop-i decreases-loop-i
+loop-i-smaller c = omega arith
 
-loop-again : tie.Need-loop-preserved invariant-loop decreases-loop
-loop-again c =
-    (omega arith, store_on (at c).loop.invariant.1 (_ ∷ []) _ (copy_on (text (sought c)) (n (sought c)) (at c).loop.i (omega arith) (inside (sought c))))
+loop-i-preserved : tie.Need-loop-i-preserved invariant-loop-i decreases-loop-i
+loop-i-preserved c =
+    (omega arith, store_on (at c).loop-i.invariant.1 (_ ∷ []) _ (copy_on (text (sought c)) (n (sought c)) (at c).loop-i.i (omega arith) (inside (sought c))))
 
-same_length : tie.Need-same-length invariant-loop decreases-loop
-same_length c = c.before.loop.invariant.1.size
+shape_of-out : tie.Need-shape_of-out invariant-loop-i decreases-loop-i
+shape_of-out c = c.before.loop-i.invariant.1.size
 
-returns-2 : tie.Need-returns-2 invariant-loop decreases-loop
-returns-2 c =
+returns : tie.Need-returns invariant-loop-i decreases-loop-i
+returns c =
     let t = c.before in
     let k = t.before in
-    let h : length (take (n k) (text k)) ≤ t.loop.i = omega (arith, length-take-le (n k) (text k) (inside k)) in
-    (inside k, (front_known (text k) (n k) k.literal-front.ensures).1, (all_stored t.loop.invariant.1 (drop_of_length-le _ h)).1)
+    let h : length (take (n k) (text k)) ≤ t.loop-i.i = omega (arith, length-take-le (n k) (text k) (inside k)) in
+    (inside k, (front_known (text k) (n k) k.literal_front-n.ensures).1, (all_stored t.loop-i.invariant.1 (drop_of_length-le _ h)).1)
 
-pub write-literal-spec : {M : Type 1} → statement M
-write-literal-spec =
-    tie.close
-    (tie.spec
-    invariant-loop
-    decreases-loop
-    returns
-    literal-front-requires
-    loop-holds
-    shared-slice-read-out
-    slice-write-out
-    add-i
-    loop-less
-    loop-again
-    same_length
-    returns-2)
+pub write_literal_spec : {M : Type 1} → statement M
+write_literal_spec = tie.close (tie.spec invariant-loop-i decreases-loop-i returns-then-s-lt16 literal_front-n-requires loop-i-init bounds-s-i bounds-out-i overflow_add-i loop-i-smaller loop-i-preserved shape_of-out returns)

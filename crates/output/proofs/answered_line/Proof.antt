@@ -37,78 +37,78 @@ side-size Side.Allow = omega arith
 side-size Side.Disallow = omega arith
 
 -- what stands after each call
-module _ (c : tie.After-text-before) where
+module _ (c : tie.After-text_before-end) where
   abbrev given : Decision
   given = c.before.before.before.before.args.decision
 
-  ended : Built zeros 1 end_of c.text-before.result c.text-before.new.1.0
+  ended : Built zeros 1 end_of c.text_before-end.result c.text_before-end.new.1.0
   unfolding octets zeros
-  ended = build_on (built_none zeros) 1 (omega arith) end_of (omega arith) c.text-before.ensures.0 c.text-before.ensures.1
+  ended = build_on (built_none zeros) 1 (omega arith) end_of (omega arith) c.text_before-end.ensures.0 c.text_before-end.ensures.1
 
-abbrev ended_at : tie.After-octets3 → tie.After-text-before
-ended_at c = c.before.before.before
+abbrev ended_at : tie.After-octets-3-1 → tie.After-text_before-end
+ended_at c = c.before.before.before.before
 
-module _ (c : tie.After-named-before) where
+module _ (c : tie.After-named_before-compared) where
   abbrev given2 : Decision
   given2 = given (ended_at c.before)
 
-  compared : Built zeros 31 (from_compared given2) c.named-before.result c.named-before.new.1.1.0
+  compared : Built zeros 31 (from_compared given2) c.named_before-compared.result c.named_before-compared.new.1.1.0
   unfolding octets zeros
-  compared = build_on (ended (ended_at c.before)) 30 (omega arith) _ (named_size given2.compared (octets " compared ")) c.named-before.ensures.0 c.named-before.ensures.1
+  compared = build_on (ended (ended_at c.before)) 30 (omega arith) _ (named_size given2.compared (octets " compared ")) c.named_before-compared.ensures.0 c.named_before-compared.ensures.1
 
-abbrev compared_at : tie.After-octets5 → tie.After-named-before
-compared_at c = c.before.before.before
+abbrev compared_at : tie.After-octets-5-1 → tie.After-named_before-compared
+compared_at c = c.before.before.before.before
 
-module _ (c : tie.After-named-before2) where
+module _ (c : tie.After-named_before-unread) where
   abbrev given3 : Decision
   given3 = given2 (compared_at c.before)
 
-  unread : Built zeros 59 (from_unread given3) c.named-before2.result c.named-before2.new.1.1.0
+  unread : Built zeros 59 (from_unread given3) c.named_before-unread.result c.named_before-unread.new.1.1.0
   unfolding octets zeros
-  unread = build_on (compared (compared_at c.before)) 28 (omega arith) _ (named_size given3.unread (octets " unread ")) c.named-before2.ensures.0 c.named-before2.ensures.1
+  unread = build_on (compared (compared_at c.before)) 28 (omega arith) _ (named_size given3.unread (octets " unread ")) c.named_before-unread.ensures.0 c.named_before-unread.ensures.1
 
-abbrev unread-at : tie.After-octets7 → tie.After-named-before2
-unread-at c = c.before.before.before
+abbrev unread-at : tie.After-octets-7-1 → tie.After-named_before-unread
+unread-at c = c.before.before.before.before
 
-module _ (c : tie.After-named-before3) where
+module _ (c : tie.After-named_before-number) where
   abbrev given4 : Decision
   given4 = given3 (unread-at c.before)
 
-  line : Built zeros 85 (from_line given4) c.named-before3.result c.named-before3.new.1.1.0
+  line : Built zeros 85 (from_line given4) c.named_before-number.result c.named_before-number.new.1.1.0
   unfolding octets zeros
-  line = build_on (unread (unread-at c.before)) 26 (omega arith) _ (named_size given4.line.number (octets " line ")) c.named-before3.ensures.0 c.named-before3.ensures.1
+  line = build_on (unread (unread-at c.before)) 26 (omega arith) _ (named_size given4.line.number (octets " line ")) c.named_before-number.ensures.0 c.named_before-number.ensures.1
 
-abbrev line_at : tie.After-octets9 → tie.After-named-before3
+abbrev line_at : tie.After-octets-9-1 → tie.After-named_before-number
 line_at c = c.before.before
 
-slice-aggregate-text-before : tie.Need-slice-aggregate-text-before
-slice-aggregate-text-before c = search rules
+slice_bounds-text_before-end-2 : tie.Need-slice_bounds-text_before-end-2
+slice_bounds-text_before-end-2 c = search rules
 
 slice-aggregate-text-before-2 : tie.Need-slice-aggregate-text-before-2
 slice-aggregate-text-before-2 c = search rules
 
-text-before-requires : tie.Need-text-before-requires
-text-before-requires c κs = search rules
+text_before-end-requires : tie.Need-text_before-end-requires
+text_before-end-requires c κs = search rules
 
-slice-aggregate-named-before : tie.Need-slice-aggregate-named-before
-slice-aggregate-named-before c = search rules
+slice_bounds-named_before-end-2 : tie.Need-slice_bounds-named_before-end-2
+slice_bounds-named_before-end-2 c = search rules
 
-slice-aggregate-named-before-2 : tie.Need-slice-aggregate-named-before-2
-slice-aggregate-named-before-2 c = search rules
+slice_bounds-named_before-end-4 : tie.Need-slice_bounds-named_before-end-4
+slice_bounds-named_before-end-4 c = search rules
 
-named-before-requires : tie.Need-named-before-requires
+named_before-compared-requires : tie.Need-named_before-compared-requires
 unfolding octets zeros
-named-before-requires c κs = built_room (ended (ended_at c)) 30 (omega arith) _ (named_size (given (ended_at c)).compared (octets " compared "))
+named_before-compared-requires c κs = built_room (ended (ended_at c)) 30 (omega arith) _ (named_size (given (ended_at c)).compared (octets " compared "))
 
-slice-aggregate-named-before-3 : tie.Need-slice-aggregate-named-before-3
-slice-aggregate-named-before-3 c = search rules
+slice_bounds-named_before-end-6 : tie.Need-slice_bounds-named_before-end-6
+slice_bounds-named_before-end-6 c = search rules
 
 slice-aggregate-named-before-4 : tie.Need-slice-aggregate-named-before-4
 slice-aggregate-named-before-4 c = search rules
 
-named-before-requires-2 : tie.Need-named-before-requires-2
+named_before-unread-requires : tie.Need-named_before-unread-requires
 unfolding octets zeros
-named-before-requires-2 c κs = built_room (compared (compared_at c)) 28 (omega arith) _ (named_size (given2 (compared_at c)).unread (octets " unread "))
+named_before-unread-requires c κs = built_room (compared (compared_at c)) 28 (omega arith) _ (named_size (given2 (compared_at c)).unread (octets " unread "))
 
 slice-aggregate-named-before-5 : tie.Need-slice-aggregate-named-before-5
 slice-aggregate-named-before-5 c = search rules
@@ -116,41 +116,24 @@ slice-aggregate-named-before-5 c = search rules
 slice-aggregate-named-before-6 : tie.Need-slice-aggregate-named-before-6
 slice-aggregate-named-before-6 c = search rules
 
-named-before-requires-3 : tie.Need-named-before-requires-3
+named_before-number-requires : tie.Need-named_before-number-requires
 unfolding octets zeros
-named-before-requires-3 c κs = built_room (unread (unread-at c)) 26 (omega arith) _ (named_size (given3 (unread-at c)).line.number (octets " line "))
+named_before-number-requires c κs = built_room (unread (unread-at c)) 26 (omega arith) _ (named_size (given3 (unread-at c)).line.number (octets " line "))
 
-slice-aggregate-side-before : tie.Need-slice-aggregate-side-before
-slice-aggregate-side-before c = search rules
+slice_bounds-side_before-end : tie.Need-slice_bounds-side_before-end
+slice_bounds-side_before-end c = search rules
 
-side-before-requires : tie.Need-side-before-requires
+side_before-start-requires : tie.Need-side_before-start-requires
 unfolding zeros
-side-before-requires c κs = built_room (line (line_at c)) 8 (omega arith) _ (side-size (given4 (line_at c)).side)
+side_before-start-requires c κs = built_room (line (line_at c)) 8 (omega arith) _ (side-size (given4 (line_at c)).side)
 
 returns : tie.Need-returns
 unfolding zeros
 returns c =
-    let s = c.before.side_before.ensures in
+    let s = c.before.side_before-start.ensures in
     let t = line_at c.before.before in
     rw (whole (given4 t))
     (built_holds (build_on (line t) 8 (omega arith) (side_text (given4 t).side) (side-size (given4 t).side) s.0 s.1) (omega arith))
 
-pub answered-line-spec : {M : Type 1} → statement M
-answered-line-spec =
-    tie.close
-    (tie.spec
-    slice-aggregate-text-before
-    slice-aggregate-text-before-2
-    text-before-requires
-    slice-aggregate-named-before
-    slice-aggregate-named-before-2
-    named-before-requires
-    slice-aggregate-named-before-3
-    slice-aggregate-named-before-4
-    named-before-requires-2
-    slice-aggregate-named-before-5
-    slice-aggregate-named-before-6
-    named-before-requires-3
-    slice-aggregate-side-before
-    side-before-requires
-    returns)
+pub answered_line_spec : {M : Type 1} → statement M
+answered_line_spec = tie.close (tie.spec slice_bounds-text_before-end-2 text_before-end-requires slice_bounds-named_before-end-2 named_before-compared-requires slice_bounds-named_before-end-4 named_before-unread-requires slice_bounds-named_before-end-6 named_before-number-requires slice_bounds-side_before-end side_before-start-requires returns)

@@ -5,11 +5,11 @@ use Rattle.protocol.specs.Octets.{token}
 use Rattle.readable.proofs.all_token.Statement.{statement}
 use Rattle.readable.proofs.all_token.Tie as tie
 
-scan-requires : tie.Need-scan-requires
-scan-requires c κs = search rules
+scan-front-requires : tie.Need-scan-front-requires
+scan-front-requires c κs = search rules
 
 returns : tie.Need-returns
-returns c = rw c.scan.ensures (all_found token c.before.before.args.s.now)
+returns c = rw c.scan-front.ensures (all_found token c.before.before.args.s.now)
 
-pub all-token-spec : {M : Type 1} → statement M
-all-token-spec = tie.close (tie.spec scan-requires returns)
+pub all_token_spec : {M : Type 1} → statement M
+all_token_spec = tie.close (tie.spec scan-front-requires returns)

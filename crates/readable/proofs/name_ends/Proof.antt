@@ -7,19 +7,18 @@ use Rattle.readable.proofs.Naming.{ends_none, ends_here}
 use Rattle.readable.proofs.name_ends.Statement.{statement}
 use Rattle.readable.proofs.name_ends.Tie as tie
 
+returns-then-v-i : tie.Need-returns-then-v-i
+returns-then-v-i c = let a = c.before.before.args in sym (ends_none a.v.now a.at.offset c.if-v-i.true)
+
+bounds-v-i : tie.Need-bounds-v-i
+bounds-v-i c = search rules
+
+is_of-requires : tie.Need-is_of-requires
+is_of-requires c κs = search rules
+
 returns : tie.Need-returns
-returns c = let a = c.before.before.args in sym (ends_none a.v.now a.at.offset c.if1.true)
+returns c =
+    let a = c.before.before.before.before.args in ap not c.is_of.ensures ∙ sym (ends_here a.v.now a.at.offset (omega arith))
 
-shared-slice-read-is-of : tie.Need-shared-slice-read-is-of
-shared-slice-read-is-of c = search rules
-
-is-of-requires : tie.Need-is-of-requires
-is-of-requires c κs = search rules
-
-returns-2 : tie.Need-returns-2
-returns-2 c =
-    let a = c.before.before.before.before.args in ap not c.is-of.ensures ∙ sym (ends_here a.v.now a.at.offset (omega arith))
-
-pub name-ends-spec : {M : Type 1} → statement M
-name-ends-spec =
-    tie.close (tie.spec returns shared-slice-read-is-of is-of-requires returns-2)
+pub name_ends_spec : {M : Type 1} → statement M
+name_ends_spec = tie.close (tie.spec returns-then-v-i bounds-v-i is_of-requires returns)

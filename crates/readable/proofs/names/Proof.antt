@@ -13,82 +13,71 @@ use Rattle.readable.proofs.names.Statement.{statement}
 use Rattle.readable.proofs.names.Tie as tie
 
 -- the value and who, and whether the value is "*"
-module _ (c : tie.After-is-everyone) where
+module _ (c : tie.After-is_everyone) where
   abbrev value : List ℕ
   value = c.before.before.before.args.value.now
 
   abbrev who : List ℕ
   who = c.before.before.before.args.who.now
 
-  told : same value everyone ≡ c.is-everyone.result
-  told = sym c.is-everyone.ensures
+  told : same value everyone ≡ c.is_everyone.result
+  told = sym c.is_everyone.ensures
 
-is-everyone-requires : tie.Need-is-everyone-requires
-is-everyone-requires c κs = tt
+is_everyone-requires : tie.Need-is_everyone-requires
+is_everyone-requires c κs = tt
 
-is-everyone-requires-2 : tie.Need-is-everyone-requires-2
-is-everyone-requires-2 c κs = search rules
+is_everyone-requires-then-is_everyone : tie.Need-is_everyone-requires-then-is_everyone
+is_everyone-requires-then-is_everyone c κs = search rules
 
-returns : tie.Need-returns
-returns c =
-    let asked = c.before.before in c.is-everyone2.ensures ∙ star_names (value asked) (who asked) (told asked ∙ c.before.if1.true)
+returns-then-is_everyone : tie.Need-returns-then-is_everyone
+returns-then-is_everyone c =
+    let asked = c.before.before in c.is_everyone-then-is_everyone.ensures ∙ star_names (value asked) (who asked) (told asked ∙ c.before.if-is_everyone.true)
 
 -- it isn't, and it begins with who or doesn't
-module _ (c : tie.After-begins-with) where
-  abbrev asked : tie.After-is-everyone
+module _ (c : tie.After-begins_with) where
+  abbrev asked : tie.After-is_everyone
   asked = c.before.before
 
   other : same (value asked) everyone ≡ false
-  other = told asked ∙ c.before.if1.false
+  other = told asked ∙ c.before.if-is_everyone.false
 
-  begins : begun (value asked) (who asked) ≡ c.begins-with.result
-  begins = sym c.begins-with.ensures
+  begins : begun (value asked) (who asked) ≡ c.begins_with.result
+  begins = sym c.begins_with.ensures
 
-begins-with-requires : tie.Need-begins-with-requires
-begins-with-requires c κs = search rules
+begins_with-requires : tie.Need-begins_with-requires
+begins_with-requires c κs = search rules
 
-returns-2 : tie.Need-returns-2
-returns-2 c =
-    let b = c.before in names_begun (value (asked b)) (other b) (who (asked b)) (begins b ∙ not-true b.begins-with.result c.if2.true)
+returns-then-not-begins_with : tie.Need-returns-then-not-begins_with
+returns-then-not-begins_with c =
+    let b = c.before in names_begun (value (asked b)) (other b) (who (asked b)) (begins b ∙ c.if-not-begins_with.true)
 
-is-name-requires : tie.Need-is-name-requires
-is-name-requires c κs = search rules
+is_name-requires : tie.Need-is_name-requires
+is_name-requires c κs = search rules
 
 -- and who is a name or isn't
-module _ (c : tie.After-is-name) where
-  abbrev compared : tie.After-begins-with
+module _ (c : tie.After-is_name) where
+  abbrev compared : tie.After-begins_with
   compared = c.before.before
 
   name : is_name (who (asked compared)) ≡ c.is_name.result
   name = sym c.is_name.ensures
 
-returns-3 : tie.Need-returns-3
-returns-3 c =
+returns-then-not-is_name : tie.Need-returns-then-not-is_name
+returns-then-not-is_name c =
     let n = c.before in
     let b = compared n in
-    names_named (value (asked b)) (other b) (who (asked b)) (name n ∙ not-true n.is_name.result c.if3.true)
+    names_named (value (asked b)) (other b) (who (asked b)) (name n ∙ c.if-not-is_name.true)
 
-name-ends-requires : tie.Need-name-ends-requires
-name-ends-requires c κs = search rules
+name_ends-requires : tie.Need-name_ends-requires
+name_ends-requires c κs = search rules
 
-returns-4 : tie.Need-returns-4
-returns-4 c =
+returns : tie.Need-returns
+returns c =
     let n = c.before.before in
     let b = compared n in
-    c.name-ends.ensures
-    ∙ names_ended (value (asked b)) (other b) (who (asked b)) (begins b ∙ not-false b.begins-with.result n.before.if2.false)
-    (name n ∙ not-false n.is_name.result c.before.if3.false)
+    c.name_ends.ensures
+    ∙ names_ended (value (asked b)) (other b) (who (asked b)) (begins b ∙ n.before.if-not-begins_with.false)
+    (name n ∙ c.before.if-not-is_name.false)
 
-pub names-spec : {M : Type 1} → statement M
-names-spec =
-    tie.close
-    (tie.spec
-    is-everyone-requires
-    is-everyone-requires-2
-    returns
-    begins-with-requires
-    returns-2
-    is-name-requires
-    returns-3
-    name-ends-requires
-    returns-4)
+pub names_spec : {M : Type 1} → statement M
+names_spec = tie.close (tie.spec is_everyone-requires is_everyone-requires-then-is_everyone returns-then-is_everyone begins_with-requires returns-then-not-begins_with is_name-requires returns-then-not-is_name name_ends-requires returns)

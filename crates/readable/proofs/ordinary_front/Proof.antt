@@ -5,11 +5,11 @@ use Rattle.protocol.specs.declared.Place.{Place}
 use Rattle.readable.proofs.ordinary_front.Statement.{statement}
 use Rattle.readable.proofs.ordinary_front.Tie as tie
 
-seek-requires : tie.Need-seek-requires
-seek-requires c κs = tt
+seek-end-requires : tie.Need-seek-end-requires
+seek-end-requires c κs = tt
 
 returns : tie.Need-returns
-returns c = omega (arith, ap (λ (p : Place). p.offset) c.seek.ensures)
+returns c = omega (arith, ap (λ (p : Place). p.offset) c.seek-end.ensures)
 
-pub ordinary-front-spec : {M : Type 1} → statement M
-ordinary-front-spec = tie.close (tie.spec seek-requires returns)
+pub ordinary_front_spec : {M : Type 1} → statement M
+ordinary_front_spec = tie.close (tie.spec seek-end-requires returns)

@@ -25,23 +25,22 @@ unfolding pattern_start begins
 start-some [] h = absurd (h refl)
 start-some (x ∷ l) h = refl
 
-returns : tie.Need-returns
-returns c = start_none c.before.args.p.now c.if1.true
+returns-then-p-eq0 : tie.Need-returns-then-p-eq0
+returns-then-p-eq0 c = start_none c.before.args.p.now c.if-p-eq0.true
 
-shared-slice-read-x : tie.Need-shared-slice-read-x
-shared-slice-read-x c = search rules
+bounds-p-0 : tie.Need-bounds-p-0
+bounds-p-0 c = search rules
 
-returns-2 : tie.Need-returns-2
-returns-2 c =
+returns-then-x-eq47 : tie.Need-returns-then-x-eq47
+returns-then-x-eq47 c =
     let some = c.before.before in
-    let slash = eq-eqb _ _ c.if2.true in
-    rw slash (rw slash at (start-some some.before.args.p.now some.if1.false))
+    let slash = eq-eqb _ _ c.if-x-eq47.true in
+    rw slash (rw slash at (start-some some.before.args.p.now some.if-p-eq0.false))
 
-returns-3 : tie.Need-returns-3
-returns-3 c =
+returns-else-x-eq47 : tie.Need-returns-else-x-eq47
+returns-else-x-eq47 c =
     let some = c.before.before in
-    rw (ne_eqb _ _ c.if2.false) at (start-some some.before.args.p.now some.if1.false)
+    rw (ne_eqb _ _ c.if-x-eq47.false) at (start-some some.before.args.p.now some.if-p-eq0.false)
 
-pub pattern-start-spec : {M : Type 1} → statement M
-pattern-start-spec =
-    tie.close (tie.spec returns shared-slice-read-x returns-2 returns-3)
+pub pattern_start_spec : {M : Type 1} → statement M
+pattern_start_spec = tie.close (tie.spec returns-then-p-eq0 bounds-p-0 returns-then-x-eq47 returns-else-x-eq47)

@@ -6,18 +6,17 @@ use Rattle.readable.proofs.Naming.{star_readable, other_readable}
 use Rattle.readable.proofs.readable_agent.Statement.{statement}
 use Rattle.readable.proofs.readable_agent.Tie as tie
 
-is-everyone-requires : tie.Need-is-everyone-requires
-is-everyone-requires c κs = tt
+is_everyone-requires : tie.Need-is_everyone-requires
+is_everyone-requires c κs = tt
+
+returns-then-is_everyone : tie.Need-returns-then-is_everyone
+returns-then-is_everyone c = star_readable c.before.before.before.args.v.now (sym c.before.is_everyone.ensures ∙ c.if-is_everyone.true)
+
+name_ends-requires : tie.Need-name_ends-requires
+name_ends-requires c κs = search rules
 
 returns : tie.Need-returns
-returns c = star_readable c.before.before.before.args.v.now (sym c.before.is-everyone.ensures ∙ c.if1.true)
+returns c = ap not c.name_ends.ensures ∙ other_readable c.before.before.before.before.args.v.now (sym c.before.before.is_everyone.ensures ∙ c.before.if-is_everyone.false)
 
-name-ends-requires : tie.Need-name-ends-requires
-name-ends-requires c κs = search rules
-
-returns-2 : tie.Need-returns-2
-returns-2 c = ap not c.name-ends.ensures ∙ other_readable c.before.before.before.before.args.v.now (sym c.before.before.is-everyone.ensures ∙ c.before.if1.false)
-
-pub readable-agent-spec : {M : Type 1} → statement M
-readable-agent-spec =
-    tie.close (tie.spec is-everyone-requires returns name-ends-requires returns-2)
+pub readable_agent_spec : {M : Type 1} → statement M
+readable_agent_spec = tie.close (tie.spec is_everyone-requires returns-then-is_everyone name_ends-requires returns)

@@ -4,20 +4,19 @@ use Rattle.protocol.specs.Readable.{readable_pattern}
 use Rattle.readable.proofs.readable_pattern.Statement.{statement}
 use Rattle.readable.proofs.readable_pattern.Tie as tie
 
-pattern-start-requires : tie.Need-pattern-start-requires
-pattern-start-requires c κs = tt
+pattern_start-requires : tie.Need-pattern_start-requires
+pattern_start-requires c κs = tt
 
-well-formed-requires : tie.Need-well-formed-requires
-well-formed-requires c κs = tt
+well_formed-requires : tie.Need-well_formed-requires
+well_formed-requires c κs = tt
+
+returns-then-pattern_start : tie.Need-returns-then-pattern_start
+unfolding readable_pattern
+returns-then-pattern_start c = rw (sym c.before.before.pattern_start.ensures ∙ c.before.if-pattern_start.true) c.well_formed-then-pattern_start.ensures
 
 returns : tie.Need-returns
 unfolding readable_pattern
-returns c = rw (sym c.before.before.pattern-start.ensures ∙ c.before.if1.true) c.well-formed-2.ensures
+returns c = rw (sym c.before.pattern_start.ensures ∙ c.if-pattern_start.false)
 
-returns-2 : tie.Need-returns-2
-unfolding readable_pattern
-returns-2 c = rw (sym c.before.pattern-start.ensures ∙ c.if1.false)
-
-pub readable-pattern-spec : {M : Type 1} → statement M
-readable-pattern-spec =
-    tie.close (tie.spec pattern-start-requires well-formed-requires returns returns-2)
+pub readable_pattern_spec : {M : Type 1} → statement M
+readable_pattern_spec = tie.close (tie.spec pattern_start-requires well_formed-requires returns-then-pattern_start returns)

@@ -5,17 +5,17 @@ use Rattle.fields.proofs.Nears.{not_agent}
 use Rattle.fields.proofs.near.agent_only.Statement.{statement}
 use Rattle.fields.proofs.near.agent_only.Tie as tie
 
-enum_told : tie.Need-enum-told
-enum_told c = search rules
+enum_told-1 : tie.Need-enum_told-1
+enum_told-1 c = search rules
 
-no-head-requires : tie.Need-no-head-requires
-no-head-requires c κs = search rules
+no_head-requires : tie.Need-no_head-requires
+no_head-requires c κs = search rules
+
+returns-in_default : tie.Need-returns-in_default
+returns-in_default c = let h = c.before.before.args.head in c.no_head.ensures ∙ not_agent h.field h c.before.in_default.in_default-own.keys2
 
 returns : tie.Need-returns
-returns c = let h = c.before.before.args.head in c.no-head.ensures ∙ not_agent h.field h c.before.match.keys2
+returns c = search rules
 
-returns-2 : tie.Need-returns-2
-returns-2 c = search rules
-
-pub agent-only-spec : {M : Type 1} → statement M
-agent-only-spec = tie.close (tie.spec enum_told no-head-requires returns returns-2)
+pub agent_only_spec : {M : Type 1} → statement M
+agent_only_spec = tie.close (tie.spec enum_told-1 no_head-requires returns-in_default returns)

@@ -18,11 +18,11 @@ use Rattle.fields.proofs.Folds.{agent_begins}
 use Rattle.fields.proofs.near.begins_agent.Statement.{statement}
 use Rattle.fields.proofs.near.begins_agent.Tie as tie
 
-begins-word-requires : tie.Need-begins-word-requires
-begins-word-requires c κs = search rules
+begins_word-requires : tie.Need-begins_word-requires
+begins_word-requires c κs = search rules
 
 -- the name's first eight octets, its hyphen, and then one at a time
-module _ (c : tie.After-shared-slice-known) where
+module _ (c : tie.After-shared_slice_known-1) where
   abbrev text : List ℕ
   text = c.before.args.s.now
 
@@ -30,7 +30,7 @@ module _ (c : tie.After-shared-slice-known) where
   octet i = get_or text i 0
 
   known : (i : ℕ) → octet i < 256
-  known i = omega (arith, c.shared-slice-known.given i)
+  known i = omega (arith, c.shared_slice_known-1.given i)
 
   abbrev front : Bool
   front = word_begins Field.Agent (octets_of 8 c.before.args.w)
@@ -41,96 +41,78 @@ module _ (c : tie.After-shared-slice-known) where
   whole : begins_name Field.Agent text ≡ (((front && hyphen) && eqb (lower_case (octet 8)) (lower_case (code "n"))) && eqb (lower_case (octet 9)) (lower_case (code "t")))
   whole = agent_begins text c.before.args.w c.before.requires.2 known c.before.requires.1
 
-returns : tie.Need-returns
-returns c =
+returns-then-not-begins_word : tie.Need-returns-then-not-begins_word
+returns-then-not-begins_word c =
     let start = c.before.before in
-    let other : front start ≡ false = sym c.before.begins-word.ensures ∙ not-true c.before.begins-word.result c.if1.true in
+    let other : front start ≡ false = sym c.before.begins_word.ensures ∙ c.if-not-begins_word.true in
     sym (whole start ∙ rw other)
 
 -- the first eight are the name's, folded
-module _ (c : tie.Else1) where
-  abbrev start : tie.After-shared-slice-known
+module _ (c : tie.Else-not-begins_word) where
+  abbrev start : tie.After-shared_slice_known-1
   start = c.before.before
 
   here : front start ≡ true
-  here = sym c.before.begins-word.ensures ∙ not-false c.before.begins-word.result c.if1.false
+  here = sym c.before.begins_word.ensures ∙ c.if-not-begins_word.false
 
-shared-slice-read-if2 : tie.Need-shared-slice-read-if2
-shared-slice-read-if2 c = search rules
+bounds-s-4 : tie.Need-bounds-s-4
+bounds-s-4 c = search rules
 
-index-1-if2 : tie.Need-bounds-1-if2
-index-1-if2 c = search rules
+bounds-0 : tie.Need-bounds-0
+bounds-0 c = search rules
 
-index-2-if2 : tie.Need-bounds-2-if2
-index-2-if2 c = search rules
+bounds-4 : tie.Need-bounds-4
+bounds-4 c = search rules
 
-returns-2 : tie.Need-returns-2
-returns-2 c =
+returns-then-s : tie.Need-returns-then-s
+returns-then-s c =
     let e = c.before.before.before in
-    sym (whole (start e) ∙ rw (here e, ne_eqb (octet (start e) 4) (code "-") c.if2.true))
+    sym (whole (start e.before) ∙ rw (here e.before, ne_eqb (octet (start e.before) 4) (code "-") c.if-s.true))
 
 -- and the hyphen is one
-module _ (c : tie.Else2) where
-  abbrev first : tie.Else1
-  first = c.before.before.before
+module _ (c : tie.Else-s) where
+  abbrev first : tie.Else-not-begins_word
+  first = c.before.before.before.before
 
   both : (front (start first) && hyphen (start first)) ≡ true
-  both = rw (here first, c.if2.false)
+  both = rw (here first, c.if-s.false)
 
-shared-slice-read-is-same : tie.Need-shared-slice-read-is-same
-shared-slice-read-is-same c = search rules
+bounds-s-8 : tie.Need-bounds-s-8
+bounds-s-8 c = search rules
 
-index-1-is-same : tie.Need-bounds-1-is-same
-index-1-is-same c = search rules
+bounds-0-else-s : tie.Need-bounds-0-else-s
+bounds-0-else-s c = search rules
 
-index-2-is-same : tie.Need-bounds-2-is-same
-index-2-is-same c = search rules
+bounds-8 : tie.Need-bounds-8
+bounds-8 c = search rules
 
-is-same-requires : tie.Need-is-same-requires
-is-same-requires c κs = search rules
+is_same-requires : tie.Need-is_same-requires
+is_same-requires c κs = search rules
 
-returns-3 : tie.Need-returns-3
-returns-3 c =
+returns-then-not-is_same : tie.Need-returns-then-not-is_same
+returns-then-not-is_same c =
     let same = c.before in
     let e = same.before.before.before in
-    sym (whole (start (first e)) ∙ rw (both e, sym same.is_same.ensures ∙ not-true same.is_same.result c.if3.true))
+    sym (whole (start (first e.before)) ∙ rw (both e.before, sym same.is_same.ensures ∙ c.if-not-is_same.true))
 
-shared-slice-read-is-same-2 : tie.Need-shared-slice-read-is-same-2
-shared-slice-read-is-same-2 c = search rules
+bounds-s-9 : tie.Need-bounds-s-9
+bounds-s-9 c = search rules
 
-index-1-is-same-2 : tie.Need-bounds-1-is-same-2
-index-1-is-same-2 c = search rules
+bounds-0-else-not-is_same : tie.Need-bounds-0-else-not-is_same
+bounds-0-else-not-is_same c = search rules
 
-index-2-is-same-2 : tie.Need-bounds-2-is-same-2
-index-2-is-same-2 c = search rules
+bounds-9 : tie.Need-bounds-9
+bounds-9 c = search rules
 
-is-same-requires-2 : tie.Need-is-same-requires-2
-is-same-requires-2 c κs = search rules
+is_same-requires-2 : tie.Need-is_same-requires-2
+is_same-requires-2 c κs = search rules
 
-returns-4 : tie.Need-returns-4
-returns-4 c =
+returns : tie.Need-returns
+returns c =
     let f = c.before.before.before in
     let same = f.before in
     let e = same.before.before.before in
-    sym (whole (start (first e)) ∙ rw (both e, sym same.is_same.ensures ∙ not-false same.is_same.result f.if3.false) (sym c.is-same2.ensures))
+    sym (whole (start (first e.before.before)) ∙ rw (both e.before.before, sym same.is_same.ensures ∙ f.if-not-is_same.false) (sym c.is_same-2.ensures))
 
-pub begins-agent-spec : {M : Type 1} → statement M
-begins-agent-spec =
-    tie.close
-    (tie.spec
-    begins-word-requires
-    returns
-    shared-slice-read-if2
-    index-1-if2
-    index-2-if2
-    returns-2
-    shared-slice-read-is-same
-    index-1-is-same
-    index-2-is-same
-    is-same-requires
-    returns-3
-    shared-slice-read-is-same-2
-    index-1-is-same-2
-    index-2-is-same-2
-    is-same-requires-2
-    returns-4)
+pub begins_agent_spec : {M : Type 1} → statement M
+begins_agent_spec = tie.close (tie.spec begins_word-requires returns-then-not-begins_word bounds-s-4 bounds-0 bounds-4 returns-then-s bounds-s-8 bounds-0-else-s bounds-8 is_same-requires returns-then-not-is_same bounds-s-9 bounds-0-else-not-is_same bounds-9 is_same-requires-2 returns)

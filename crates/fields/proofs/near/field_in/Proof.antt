@@ -15,14 +15,14 @@ use Rattle.fields.proofs.Folds.{plain_from, short_begins}
 use Rattle.fields.proofs.near.field_in.Statement.{statement}
 use Rattle.fields.proofs.near.field_in.Tie as tie
 
-folded-word-requires : tie.Need-folded-word-requires
-folded-word-requires c κs = search rules
+folded_word-w-requires : tie.Need-folded_word-w-requires
+folded_word-w-requires c κs = search rules
 
-begins-word-requires : tie.Need-begins-word-requires
-begins-word-requires c κs = search rules
+begins_word-requires : tie.Need-begins_word-requires
+begins_word-requires c κs = search rules
 
 -- the first eight octets tell of a name of letters that goes no further whether the text begins with it
-module _ (c : tie.After-folded-word) where
+module _ (c : tie.After-folded_word-w) where
   abbrev start : tie.Start
   start = c.before.before
 
@@ -30,64 +30,54 @@ module _ (c : tie.After-folded-word) where
   text = start.args.s.now
 
   known : (i : ℕ) → get_or text i 0 < 256
-  known i = omega (arith, c.before.shared-slice-known.given i)
+  known i = omega (arith, c.before.shared_slice_known-1.given i)
 
-  told : (f : Field) (b : Bool) → b ≡ word_begins f (octets_of 8 c.folded-word.result) → name_length f ≤ 8 → plain_from (name_front f) text 0 ≡ true
+  told : (f : Field) (b : Bool) → b ≡ word_begins f (octets_of 8 c.folded_word-w.result) → name_length f ≤ 8 → plain_from (name_front f) text 0 ≡ true
       → begins_name f text ≡ b
   told f b e short letters =
-      sym (e ∙ short_begins text c.folded-word.result c.folded-word.ensures known f (omega (arith, start.pre.1)) short letters)
+      sym (e ∙ short_begins text c.folded_word-w.result c.folded_word-w.ensures known f (omega (arith, start.requires.1)) short letters)
 
-disallow : (c : tie.After-begins-word) → begins_name Field.Disallow (text c.before) ≡ c.begins-word.result
+disallow : (c : tie.After-begins_word) → begins_name Field.Disallow (text c.before) ≡ c.begins_word.result
 unfolding octets plain_from
-disallow c = told c.before Field.Disallow c.begins-word.result c.begins-word.ensures (omega arith) refl
+disallow c = told c.before Field.Disallow c.begins_word.result c.begins_word.ensures (omega arith) refl
 
-returns : tie.Need-returns
+returns-then-begins_word : tie.Need-returns-then-begins_word
 unfolding field_at
-returns c = rw (disallow c.before ∙ c.if1.true)
+returns-then-begins_word c = rw (disallow c.before ∙ c.if-begins_word.true)
 
-begins-word-requires-2 : tie.Need-begins-word-requires-2
-begins-word-requires-2 c κs = search rules
+begins_word-requires-2 : tie.Need-begins_word-requires-2
+begins_word-requires-2 c κs = search rules
 
 -- it is no disallow
-module _ (c : tie.After-begins-word2) where
-  abbrev read : tie.After-folded-word
+module _ (c : tie.After-begins_word-2) where
+  abbrev read : tie.After-folded_word-w
   read = c.before.before.before
 
   no-disallow : begins_name Field.Disallow (text read) ≡ false
-  no-disallow = disallow c.before.before ∙ c.before.if1.false
+  no-disallow = disallow c.before.before ∙ c.before.if-begins_word.false
 
-  allow : begins_name Field.Allow (text read) ≡ c.begins-word2.result
+  allow : begins_name Field.Allow (text read) ≡ c.begins_word-2.result
   unfolding octets plain_from
-  allow = told read Field.Allow c.begins-word2.result c.begins-word2.ensures (omega arith) refl
+  allow = told read Field.Allow c.begins_word-2.result c.begins_word-2.ensures (omega arith) refl
 
-returns-2 : tie.Need-returns-2
+returns-then-begins_word-2 : tie.Need-returns-then-begins_word-2
 unfolding field_at
-returns-2 c = rw (no-disallow c.before, allow c.before ∙ c.if2.true)
+returns-then-begins_word-2 c = rw (no-disallow c.before, allow c.before ∙ c.if-begins_word-2.true)
 
-begins-agent-requires : tie.Need-begins-agent-requires
-begins-agent-requires c κs = search rules
+begins_agent-requires : tie.Need-begins_agent-requires
+begins_agent-requires c κs = search rules
 
-returns-3 : tie.Need-returns-3
+returns-then-begins_agent : tie.Need-returns-then-begins_agent
 unfolding field_at
-returns-3 c =
+returns-then-begins_agent c =
     let e = c.before.before in
-    rw (no-disallow e.before, allow e.before ∙ e.if2.false, sym c.before.begins-agent.ensures ∙ c.if3.true)
+    rw (no-disallow e.before, allow e.before ∙ e.if-begins_word-2.false, sym c.before.begins_agent.ensures ∙ c.if-begins_agent.true)
 
-returns-4 : tie.Need-returns-4
+returns : tie.Need-returns
 unfolding field_at
-returns-4 c =
+returns c =
     let e = c.before.before in
-    rw (no-disallow e.before, allow e.before ∙ e.if2.false, sym c.before.begins-agent.ensures ∙ c.if3.false)
+    rw (no-disallow e.before, allow e.before ∙ e.if-begins_word-2.false, sym c.before.begins_agent.ensures ∙ c.if-begins_agent.false)
 
-pub field-in-spec : {M : Type 1} → statement M
-field-in-spec =
-    tie.close
-    (tie.spec
-    folded-word-requires
-    begins-word-requires
-    returns
-    begins-word-requires-2
-    returns-2
-    begins-agent-requires
-    returns-3
-    returns-4)
+pub field_in_spec : {M : Type 1} → statement M
+field_in_spec = tie.close (tie.spec folded_word-w-requires begins_word-requires returns-then-begins_word begins_word-requires-2 returns-then-begins_word-2 begins_agent-requires returns-then-begins_agent returns)

@@ -10,20 +10,20 @@ use Rattle.fields.proofs.Rows.{name_most}
 use Rattle.fields.proofs.near.head_in.Statement.{statement}
 use Rattle.fields.proofs.near.head_in.Tie as tie
 
-field-in-requires : tie.Need-field-in-requires
-field-in-requires c κs = search rules
+field_in-field-requires : tie.Need-field_in-field-requires
+field_in-field-requires c κs = search rules
 
-enum_told : tie.Need-enum-told
-enum_told c = search rules
+enum_told-1 : tie.Need-enum_told-1
+enum_told-1 c = search rules
 
-lead-requires : tie.Need-lead-requires
-lead-requires c κs = search rules
+lead-start-requires : tie.Need-lead-start-requires
+lead-start-requires c κs = search rules
 
-no-head-requires : tie.Need-no-head-requires
-no-head-requires c κs = search rules
+no_head-requires : tie.Need-no_head-requires
+no_head-requires c κs = search rules
 
 -- the text, and its field
-module _ (c : tie.After-field-in) where
+module _ (c : tie.After-field_in-field) where
   abbrev start : tie.Start
   start = c.before.before.before
 
@@ -31,61 +31,46 @@ module _ (c : tie.After-field-in) where
   text = start.args.r.now
 
   abbrev field : Field
-  field = c.field_in.result
+  field = c.field_in-field.result
 
-returns : tie.Need-returns
-returns c =
+returns-then-start-eq0 : tie.Need-returns-then-start-eq0
+returns-then-start-eq0 c =
     let seen = c.before.before in
     let other = seen.before in
-    let f = other.before.before in
-    c.no-head.ensures
-    ∙ near_other (text f) (field f) f.field_in.ensures other.enum_told.given.1
-    (sym seen.lead.ensures ∙ c.before.if2.true)
+    let f = other.before in
+    c.no_head.ensures
+    ∙ near_other (text f) (field f) f.field_in-field.ensures other.in-Other.is
+    (sym seen.lead-start.ensures ∙ c.before.if-start-eq0.true)
 
-indented-requires : tie.Need-indented-requires
-indented-requires c κs = let led = c.before in ((start led.before.before.before).pre, led.lead.ensures)
+indented-head-requires : tie.Need-indented-head-requires
+indented-head-requires c κs = let led = c.before in ((start led.before.before).requires, led.lead-start.ensures)
 
-is-told-requires : tie.Need-is-told-requires
-is-told-requires c κs = search rules
+is_told-requires : tie.Need-is_told-requires
+is_told-requires c κs = search rules
 
-returns-2 : tie.Need-returns-2
-returns-2 c = let told = c.before in told.before.indented.ensures (sym told.is-told.ensures ∙ c.if3.true)
+returns-then-is_told : tie.Need-returns-then-is_told
+returns-then-is_told c = let told = c.before in told.before.indented-head.ensures (sym told.is_told.ensures ∙ c.if-is_told.true)
 
-name-length-requires : tie.Need-name-length-requires
-name-length-requires c κs = search rules
+name_length-requires : tie.Need-name_length-requires
+name_length-requires c κs = search rules
 
-near-value-requires : tie.Need-near-value-requires
-near-value-requires c κs =
+near_value-value-requires : tie.Need-near_value-value-requires
+near_value-value-requires c κs =
     let f = c.before.before in
-    ((start f).requires, omega (arith, c.name-length.ensures, name_most (field f), f.before.if1.true))
+    ((start f).requires, omega (arith, c.name_length.ensures, name_most (field f), f.before.if-r-ge13.true))
 
-returns-3 : tie.Need-returns-3
-returns-3 c =
+returns-then-value-ne0 : tie.Need-returns-then-value-ne0
+returns-then-value-ne0 c =
     let value = c.before in
     let size = value.before in
     let f = size.before.before in
-    near_head (text f) (field f) size.name-length.result value.near-value.result f.field_in.ensures size.before.match.keys2 size.name-length.ensures value.near-value.ensures c.if4.true
+    near_head (text f) (field f) size.name_length.result value.near_value-value.result f.field_in-field.ensures size.before.in_default.in_default-own.keys2 size.name_length.ensures value.near_value-value.ensures c.if-value-ne0.true
 
-head-of-requires : tie.Need-head-of-requires
-head-of-requires c κs = search rules
+head_of-requires : tie.Need-head_of-requires
+head_of-requires c κs = search rules
 
-returns-4 : tie.Need-returns-4
-returns-4 c = search rules
+returns : tie.Need-returns
+returns c = search rules
 
-pub head-in-spec : {M : Type 1} → statement M
-head-in-spec =
-    tie.close
-    (tie.spec
-    field-in-requires
-    enum_told
-    lead-requires
-    no-head-requires
-    returns
-    indented-requires
-    is-told-requires
-    returns-2
-    name-length-requires
-    near-value-requires
-    returns-3
-    head-of-requires
-    returns-4)
+pub head_in_spec : {M : Type 1} → statement M
+head_in_spec = tie.close (tie.spec field_in-field-requires enum_told-1 lead-start-requires no_head-requires returns-then-start-eq0 indented-head-requires is_told-requires returns-then-is_told name_length-requires near_value-value-requires returns-then-value-ne0 head_of-requires returns)

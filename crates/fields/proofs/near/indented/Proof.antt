@@ -32,105 +32,90 @@ module _ (c : tie.Start) where
   rest-size : start + length rest ≡ length text
   rest-size = omega (arith, start-in, ap length (rest_of start text), length-drop start text)
 
-sub-rest : tie.Need-overflow-sub-rest
-sub-rest c = start-in c.before
+slice_bounds-rest-count : tie.Need-slice_bounds-rest-count
+slice_bounds-rest-count c = start-in c.before
 
-part-rest-start : tie.Need-slice-bounds-rest-start
-part-rest-start c = start-in c.before
+slice_bounds-rest-start : tie.Need-slice_bounds-rest-start
+slice_bounds-rest-start c = start-in c.before
 
-part-rest-end : tie.Need-slice-bounds-rest-end
-part-rest-end c = search rules
+slice_bounds-rest-end : tie.Need-slice_bounds-rest-end
+slice_bounds-rest-end c = search rules
 
-field-in-requires : tie.Need-field-in-requires
-field-in-requires c κs = search rules
+field_in-field-requires : tie.Need-field_in-field-requires
+field_in-field-requires c κs = search rules
 
-enum_told : tie.Need-enum-told
-enum_told c = search rules
+enum_told-1 : tie.Need-enum_told-1
+enum_told-1 c = search rules
 
-no-head-requires : tie.Need-no-head-requires
-no-head-requires c κs = search rules
+no_head-requires : tie.Need-no_head-requires
+no_head-requires c κs = search rules
 
 -- the field of those
-module _ (c : tie.After-field-in) where
+module _ (c : tie.After-field_in-field) where
   abbrev begun : tie.Start
   begun = c.before.before.before.before
 
   abbrev field : Field
-  field = c.field_in.result
+  field = c.field_in-field.result
 
   long : 13 ≤ length (rest begun)
-  long = c.before.if1.true
+  long = c.before.if-rest-ge13.true
 
-returns : tie.Need-returns
-returns c e =
+returns-in-Other : tie.Need-returns-in-Other
+returns-in-Other c e =
     let other = c.before in
-    let f = other.before.before in
-    c.no-head.ensures
-    ∙ head_other (text (begun f)) (start (begun f)) (field f) (begun f).requires.1 f.field_in.ensures other.enum_told.given.1
+    let f = other.before in
+    c.no_head.ensures
+    ∙ head_other (text (begun f)) (start (begun f)) (field f) (begun f).requires.1 f.field_in-field.ensures other.in-Other.is
 
-name-length-requires : tie.Need-name-length-requires
-name-length-requires c κs = search rules
+name_length-requires : tie.Need-name_length-requires
+name_length-requires c κs = search rules
 
-near-value-requires : tie.Need-near-value-requires
-near-value-requires c κs =
+near_value-value-requires : tie.Need-near_value-value-requires
+near_value-value-requires c κs =
     let f = c.before.before in
-    ((begun f).requires.0, omega (arith, c.name-length.ensures, name_most (field f), long f))
+    ((begun f).requires.0, omega (arith, c.name_length.ensures, name_most (field f), long f))
 
 -- where the value begins behind them
-module _ (c : tie.After-near-value) where
-  abbrev size : tie.After-name-length
+module _ (c : tie.After-near_value-value) where
+  abbrev size : tie.After-name_length
   size = c.before
 
-  abbrev known : tie.After-field-in
+  abbrev known : tie.After-field_in-field
   known = size.before.before
 
   abbrev value : ℕ
-  value = c.near-value.result
+  value = c.near_value-value.result
 
   value_in : start (begun known) + value ≤ length (text (begun known))
   value_in =
-      let k : ℕ = size.name-length.result in
+      let k : ℕ = size.name_length.result in
       omega (
         arith,
-        near_most k value (drop k (rest (begun known))) c.near-value.ensures,
-        size.name-length.ensures,
+        near_most k value (drop k (rest (begun known))) c.near_value-value.ensures,
+        size.name_length.ensures,
         name_most (field known),
         long known,
         rest-size (begun known),
       )
 
-add-moved : tie.Need-overflow-add-moved
-add-moved c = omega (arith, value_in c.before)
+overflow_add-moved : tie.Need-overflow_add-moved
+overflow_add-moved c = omega (arith, value_in c.before)
 
-returns-2 : tie.Need-returns-2
-returns-2 c e =
+returns-then-value-ne0 : tie.Need-returns-then-value-ne0
+returns-then-value-ne0 c e =
     let v = c.before in
     let f = known v in
     let b = begun f in
-    near_from (text b) (start b) (rest b) (field f) (size v).name-length.result (value v) (start b + value v) b.pre.1 (rest_of (start b) (text b))
-    f.field_in.ensures (size v).before.match.keys2 (size v).name-length.ensures v.near-value.ensures c.if2.true refl
+    near_from (text b) (start b) (rest b) (field f) (size v).name_length.result (value v) (start b + value v) b.requires.1 (rest_of (start b) (text b))
+    f.field_in-field.ensures (size v).before.in_default.in_default-own.keys2 (size v).name_length.ensures v.near_value-value.ensures c.if-value-ne0.true refl
 
 -- nothing is told
-returns-3 : tie.Need-returns-3
-returns-3 c e = absurd (false≢true e)
+returns-else-value-ne0 : tie.Need-returns-else-value-ne0
+returns-else-value-ne0 c e = absurd (false≢true e)
 
-returns-4 : tie.Need-returns-4
-returns-4 c e = absurd (false≢true e)
+returns-else-rest-ge13 : tie.Need-returns-else-rest-ge13
+returns-else-rest-ge13 c e = absurd (false≢true e)
 
-pub indented-spec : {M : Type 1} → statement M
-indented-spec =
-    tie.close
-    (tie.spec
-    sub-rest
-    part-rest-start
-    part-rest-end
-    field-in-requires
-    enum_told
-    no-head-requires
-    returns
-    name-length-requires
-    near-value-requires
-    add-moved
-    returns-2
-    returns-3
-    returns-4)
+pub indented_spec : {M : Type 1} → statement M
+indented_spec = tie.close (tie.spec slice_bounds-rest-count slice_bounds-rest-start slice_bounds-rest-end field_in-field-requires enum_told-1 no_head-requires returns-in-Other name_length-requires near_value-value-requires overflow_add-moved returns-then-value-ne0 returns-else-value-ne0 returns-else-rest-ge13)

@@ -5,35 +5,33 @@ use Rattle.words.specs.Words.{octets_of}
 use Rattle.fields.proofs.near.kept_word.Statement.{statement}
 use Rattle.fields.proofs.near.kept_word.Tie as tie
 
-enum_told : tie.Need-enum-told
-enum_told c = search rules
+enum_told-1 : tie.Need-enum_told-1
+enum_told-1 c = search rules
 
-enum-told-2 : tie.Need-enum-told-2
-enum-told-2 c = search rules
+enum_told-in-Allow : tie.Need-enum_told-in-Allow
+enum_told-in-Allow c = search rules
 
-enum-told-3 : tie.Need-enum-told-3
-enum-told-3 c = search rules
+enum_told-in-Disallow : tie.Need-enum_told-in-Disallow
+enum_told-in-Disallow c = search rules
 
-enum-told-4 : tie.Need-enum-told-4
-enum-told-4 c = search rules
+enum_told-in-Other : tie.Need-enum_told-in-Other
+enum_told-in-Other c = search rules
 
-returns : tie.Need-returns
+returns-in-Agent : tie.Need-returns-in-Agent
 unfolding octets octets_of
-returns c = rw c.enum_told.given.1
+returns-in-Agent c = rw c.in-Agent.is
 
-returns-2 : tie.Need-returns-2
+returns-in-Allow : tie.Need-returns-in-Allow
 unfolding octets octets_of
-returns-2 c = rw c.enum-told2.given.1
+returns-in-Allow c = rw c.in-Allow.is
 
-returns-3 : tie.Need-returns-3
+returns-in-Disallow : tie.Need-returns-in-Disallow
 unfolding octets octets_of
-returns-3 c = rw c.enum-told3.given.1
+returns-in-Disallow c = rw c.in-Disallow.is
 
-returns-4 : tie.Need-returns-4
+returns-in-Other : tie.Need-returns-in-Other
 unfolding octets octets_of
-returns-4 c = rw c.enum-told4.given.1
+returns-in-Other c = rw c.in-Other.is
 
-pub kept-word-spec : {M : Type 1} → statement M
-kept-word-spec =
-    tie.close
-    (tie.spec enum_told enum-told-2 enum-told-3 enum-told-4 returns returns-2 returns-3 returns-4)
+pub kept_word_spec : {M : Type 1} → statement M
+kept_word_spec = tie.close (tie.spec enum_told-1 enum_told-in-Allow enum_told-in-Disallow enum_told-in-Other returns-in-Agent returns-in-Allow returns-in-Disallow returns-in-Other)

@@ -18,34 +18,26 @@ module _ (c : tie.Start) where
   abbrev start : ℕ
   start = c.args.start
 
+returns-then-r-start : tie.Need-returns-then-r-start
+returns-then-r-start c = rw (drop_of_length-le (text c.before.before) c.if-r-start.true)
+
+bounds-r-start : tie.Need-bounds-r-start
+bounds-r-start c = search rules
+
+bounds-0 : tie.Need-bounds-0
+bounds-0 c = search rules
+
+bounds-0-else-r-start : tie.Need-bounds-0-else-r-start
+bounds-0-else-r-start c = search rules
+
+is_same-requires : tie.Need-is_same-requires
+is_same-requires c κs = search rules
+
 returns : tie.Need-returns
-returns c = rw (drop_of_length-le (text c.before.before) c.if1.true)
-
-shared-slice-read-is-same : tie.Need-shared-slice-read-is-same
-shared-slice-read-is-same c = search rules
-
-index-1-is-same : tie.Need-bounds-1-is-same
-index-1-is-same c = search rules
-
-index-2-is-same : tie.Need-bounds-2-is-same
-index-2-is-same c = search rules
-
-is-same-requires : tie.Need-is-same-requires
-is-same-requires c κs = search rules
-
-returns-2 : tie.Need-returns-2
 unfolding lower_case upper
-returns-2 c =
+returns c =
     let s = c.before.before.before.before.before in
-    c.is_same.ensures ∙ rw (drop_one (text s) (start s) 0 (omega arith))
+    c.is_same.ensures ∙ rw (drop_one (text s.before) (start s.before) 0 (omega arith))
 
-pub may-be-agent-spec : {M : Type 1} → statement M
-may-be-agent-spec =
-    tie.close
-    (tie.spec
-    returns
-    shared-slice-read-is-same
-    index-1-is-same
-    index-2-is-same
-    is-same-requires
-    returns-2)
+pub may_be_agent_spec : {M : Type 1} → statement M
+may_be_agent_spec = tie.close (tie.spec returns-then-r-start bounds-r-start bounds-0 bounds-0-else-r-start is_same-requires returns)

@@ -6,67 +6,51 @@ use Rattle.words.specs.Words.{octets_of}
 use Rattle.fields.proofs.near.name_word.Statement.{statement}
 use Rattle.fields.proofs.near.name_word.Tie as tie
 
-enum_told : tie.Need-enum-told
-enum_told c = search rules
+enum_told-1 : tie.Need-enum_told-1
+enum_told-1 c = search rules
 
-index-1-word-at : tie.Need-bounds-1-word-at
-index-1-word-at c = search rules
+bounds-0 : tie.Need-bounds-0
+bounds-0 c = search rules
 
-word-at-requires : tie.Need-word-at-requires
-word-at-requires c κs = search rules
+word_at-requires : tie.Need-word_at-requires
+word_at-requires c κs = search rules
 
-enum-told-2 : tie.Need-enum-told-2
-enum-told-2 c = search rules
+enum_told-in-Allow : tie.Need-enum_told-in-Allow
+enum_told-in-Allow c = search rules
 
-index-1-word-at-2 : tie.Need-bounds-1-word-at-2
-index-1-word-at-2 c = search rules
+bounds-1 : tie.Need-bounds-1
+bounds-1 c = search rules
 
-word-at-requires-2 : tie.Need-word-at-requires-2
-word-at-requires-2 c κs = search rules
+word_at-requires-in-Allow : tie.Need-word_at-requires-in-Allow
+word_at-requires-in-Allow c κs = search rules
 
-enum-told-3 : tie.Need-enum-told-3
-enum-told-3 c = search rules
+enum_told-in-Disallow : tie.Need-enum_told-in-Disallow
+enum_told-in-Disallow c = search rules
 
-index-1-word-at-3 : tie.Need-bounds-1-word-at-3
-index-1-word-at-3 c = search rules
+bounds-2 : tie.Need-bounds-2
+bounds-2 c = search rules
 
-word-at-requires-3 : tie.Need-word-at-requires-3
-word-at-requires-3 c κs = search rules
+word_at-requires-in-Disallow : tie.Need-word_at-requires-in-Disallow
+word_at-requires-in-Disallow c κs = search rules
 
-enum-told-4 : tie.Need-enum-told-4
-enum-told-4 c = search rules
+enum_told-in-Other : tie.Need-enum_told-in-Other
+enum_told-in-Other c = search rules
 
-returns : tie.Need-returns
+returns-in-Agent : tie.Need-returns-in-Agent
 unfolding octets
-returns c = let told = c.before.before.before in c.word_at.ensures ∙ rw told.enum_told.given.1
+returns-in-Agent c = let told = c.before.before.before in c.word_at.ensures ∙ rw told.in-Agent.is
 
-returns-2 : tie.Need-returns-2
+returns-in-Allow : tie.Need-returns-in-Allow
 unfolding octets
-returns-2 c = let told = c.before.before.before in c.word-at2.ensures ∙ rw told.enum-told2.given.1
+returns-in-Allow c = let told = c.before.before.before in c.word_at-in-Allow.ensures ∙ rw told.in-Allow.is
 
-returns-3 : tie.Need-returns-3
+returns-in-Disallow : tie.Need-returns-in-Disallow
 unfolding octets
-returns-3 c = let told = c.before.before.before in c.word-at3.ensures ∙ rw told.enum-told3.given.1
+returns-in-Disallow c = let told = c.before.before.before in c.word_at-in-Disallow.ensures ∙ rw told.in-Disallow.is
 
-returns-4 : tie.Need-returns-4
+returns-in-Other : tie.Need-returns-in-Other
 unfolding octets octets_of
-returns-4 c = rw c.enum-told4.given.1
+returns-in-Other c = rw c.in-Other.is
 
-pub name-word-spec : {M : Type 1} → statement M
-name-word-spec =
-    tie.close
-    (tie.spec
-    enum_told
-    index-1-word-at
-    word-at-requires
-    enum-told-2
-    index-1-word-at-2
-    word-at-requires-2
-    enum-told-3
-    index-1-word-at-3
-    word-at-requires-3
-    enum-told-4
-    returns
-    returns-2
-    returns-3
-    returns-4)
+pub name_word_spec : {M : Type 1} → statement M
+name_word_spec = tie.close (tie.spec enum_told-1 bounds-0 word_at-requires enum_told-in-Allow bounds-1 word_at-requires-in-Allow enum_told-in-Disallow bounds-2 word_at-requires-in-Disallow enum_told-in-Other returns-in-Agent returns-in-Allow returns-in-Disallow returns-in-Other)

@@ -12,8 +12,8 @@ use Rattle.fields.proofs.Nears.{near_read}
 use Rattle.fields.proofs.near.near_value.Statement.{statement}
 use Rattle.fields.proofs.near.near_value.Tie as tie
 
-shared-slice-read-if1 : tie.Need-shared-slice-read-if1
-shared-slice-read-if1 c = search rules
+bounds-r-colon : tie.Need-bounds-r-colon
+bounds-r-colon c = search rules
 
 -- it goes by three octets
 module _ (c : tie.Start) where
@@ -27,80 +27,65 @@ module _ (c : tie.Start) where
       ≡ (if is ":" (octet colon) then (if blank (octet (colon + 1)) then (if blank (octet (colon + 2)) then 0 else colon + 2) else colon + 1) else 0)
   told = near_read c.args.r.now colon c.requires.1
 
-returns : tie.Need-returns
-returns c =
+returns-then-r-colon-ne58 : tie.Need-returns-then-r-colon-ne58
+returns-then-r-colon-ne58 c =
     let start = c.before.before.before in
-    sym (told start ∙ rw (ne_eqb (octet start (colon start)) 58 c.if1.true))
+    sym (told start ∙ rw (ne_eqb (octet start (colon start)) 58 c.if-r-colon-ne58.true))
 
 -- the first is a colon
-module _ (c : tie.Else1) where
+module _ (c : tie.Else-r-colon-ne58) where
   abbrev start : tie.Start
   start = c.before.before.before
 
   here : is ":" (octet start (colon start)) ≡ true
-  here = eq-eqb (octet start (colon start)) 58 c.if1.false
+  here = eq-eqb (octet start (colon start)) 58 c.if-r-colon-ne58.false
 
-add-is-of : tie.Need-overflow-add-is-of
-add-is-of c = search rules
+overflow_add-colon : tie.Need-overflow_add-colon
+overflow_add-colon c = search rules
 
-shared-slice-read-is-of : tie.Need-shared-slice-read-is-of
-shared-slice-read-is-of c = search rules
+bounds-r-colon-2 : tie.Need-bounds-r-colon-2
+bounds-r-colon-2 c = search rules
 
-is-of-requires : tie.Need-is-of-requires
-is-of-requires c κs = search rules
+is_of-requires : tie.Need-is_of-requires
+is_of-requires c κs = search rules
 
-add-result : tie.Need-overflow-add-result
-add-result c = search rules
+overflow_add-result : tie.Need-overflow_add-result
+overflow_add-result c = search rules
 
-returns-2 : tie.Need-returns-2
-returns-2 c =
+returns-then-not-is_of : tie.Need-returns-then-not-is_of
+returns-then-not-is_of c =
     let e = c.before.before.before in
-    sym (told (start e) ∙ rw (here e, sym c.before.is-of.ensures ∙ not-true c.before.is-of.result c.if2.true))
+    sym (told (start e) ∙ rw (here e, sym c.before.is_of.ensures ∙ c.if-not-is_of.true))
 
 -- and the second a space or tab
-module _ (c : tie.Else2) where
-  abbrev first : tie.Else1
+module _ (c : tie.Else-not-is_of) where
+  abbrev first : tie.Else-r-colon-ne58
   first = c.before.before.before
 
   next : blank (octet (start first) (colon (start first) + 1)) ≡ true
-  next = sym c.before.is-of.ensures ∙ not-false c.before.is-of.result c.if2.false
+  next = sym c.before.is_of.ensures ∙ c.if-not-is_of.false
 
-add-is-of-2 : tie.Need-overflow-add-is-of-2
-add-is-of-2 c = search rules
+overflow_add-colon-2 : tie.Need-overflow_add-colon-2
+overflow_add-colon-2 c = search rules
 
-shared-slice-read-is-of-2 : tie.Need-shared-slice-read-is-of-2
-shared-slice-read-is-of-2 c = search rules
+bounds-r-colon-3 : tie.Need-bounds-r-colon-3
+bounds-r-colon-3 c = search rules
 
-is-of-requires-2 : tie.Need-is-of-requires-2
-is-of-requires-2 c κs = search rules
+is_of-requires-2 : tie.Need-is_of-requires-2
+is_of-requires-2 c κs = search rules
 
-add-result-2 : tie.Need-overflow-add-result-2
-add-result-2 c = search rules
+overflow_add-result-then-not-is_of-2 : tie.Need-overflow_add-result-then-not-is_of-2
+overflow_add-result-then-not-is_of-2 c = search rules
 
-returns-3 : tie.Need-returns-3
-returns-3 c =
+returns-then-not-is_of-2 : tie.Need-returns-then-not-is_of-2
+returns-then-not-is_of-2 c =
     let e = c.before.before.before in
-    sym (told (start (first e)) ∙ rw (here (first e), next e, sym c.before.is-of2.ensures ∙ not-true c.before.is-of2.result c.if3.true))
+    sym (told (start (first e)) ∙ rw (here (first e), next e, sym c.before.is_of-2.ensures ∙ c.if-not-is_of-2.true))
 
-returns-4 : tie.Need-returns-4
-returns-4 c =
+returns : tie.Need-returns
+returns c =
     let e = c.before.before.before in
-    sym (told (start (first e)) ∙ rw (here (first e), next e, sym c.before.is-of2.ensures ∙ not-false c.before.is-of2.result c.if3.false))
+    sym (told (start (first e)) ∙ rw (here (first e), next e, sym c.before.is_of-2.ensures ∙ c.if-not-is_of-2.false))
 
-pub near-value-spec : {M : Type 1} → statement M
-near-value-spec =
-    tie.close
-    (tie.spec
-    shared-slice-read-if1
-    returns
-    add-is-of
-    shared-slice-read-is-of
-    is-of-requires
-    add-result
-    returns-2
-    add-is-of-2
-    shared-slice-read-is-of-2
-    is-of-requires-2
-    add-result-2
-    returns-3
-    returns-4)
+pub near_value_spec : {M : Type 1} → statement M
+near_value_spec = tie.close (tie.spec bounds-r-colon returns-then-r-colon-ne58 overflow_add-colon bounds-r-colon-2 is_of-requires overflow_add-result returns-then-not-is_of overflow_add-colon-2 bounds-r-colon-3 is_of-requires-2 overflow_add-result-then-not-is_of-2 returns-then-not-is_of-2 returns)

@@ -12,36 +12,36 @@ use Rattle.output.proofs.Fronts.{sets_before, before_append}
 use Rattle.output.proofs.before.decimal_before.Statement.{statement}
 use Rattle.output.proofs.before.decimal_before.Tie as tie
 
-abbrev invariant-loop : tie.invariant-loop
-invariant-loop n out₀ at rest₀ start₀ out rest start =
+abbrev invariant-loop-rest : tie.invariant-loop-rest
+invariant-loop-rest n out₀ at rest₀ start₀ out rest start =
     ((start ≤ at) × (rest ≤ n))
     × ((start + length (decimal n) ≡ at + length (decimal rest))
     × ((length out ≡ length out₀) × (before (decimal rest) start out ≡ before (decimal n) at out₀)))
 
-abbrev decreases-loop : tie.decreases-loop
-decreases-loop n out₀ at rest₀ start₀ out rest start = rest
+abbrev decreases-loop-rest : tie.decreases-loop-rest
+decreases-loop-rest n out₀ at rest₀ start₀ out rest start = rest
 
-loop-holds : tie.Need-loop-init invariant-loop decreases-loop
-loop-holds c = ((omega arith, omega arith), (refl, (refl, refl)))
+loop-rest-init : tie.Need-loop-rest-init invariant-loop-rest decreases-loop-rest
+loop-rest-init c = ((omega arith, omega arith), (refl, (refl, refl)))
 
-sub-start : tie.Need-overflow-sub-start invariant-loop decreases-loop
-sub-start c = omega (arith, decimal_some c.before.loop.rest)
+overflow_sub-start : tie.Need-overflow_sub-start invariant-loop-rest decreases-loop-rest
+overflow_sub-start c = omega (arith, decimal_some c.before.loop-rest.rest)
 
-cast-out : tie.Need-overflow-cast-out invariant-loop decreases-loop
-cast-out c = omega arith
+overflow_cast-out : tie.Need-overflow_cast-out invariant-loop-rest decreases-loop-rest
+overflow_cast-out c = omega arith
 
-add-out : tie.Need-overflow-add-out invariant-loop decreases-loop
-add-out c = omega arith
+overflow_add-out : tie.Need-overflow_add-out invariant-loop-rest decreases-loop-rest
+overflow_add-out c = omega arith
 
-slice-write-out : tie.Need-slice-write-out invariant-loop decreases-loop
-slice-write-out c = omega (arith, decimal_some c.before.loop.rest)
+bounds-out-start : tie.Need-bounds-out-start invariant-loop-rest decreases-loop-rest
+bounds-out-start c = omega (arith, decimal_some c.before.loop-rest.rest)
 
-loop-less : tie.Need-loop-smaller invariant-loop decreases-loop
-loop-less c = omega arith
+loop-rest-smaller : tie.Need-loop-rest-smaller invariant-loop-rest decreases-loop-rest
+loop-rest-smaller c = omega arith
 
-loop-again : tie.Need-loop-preserved invariant-loop decreases-loop
-loop-again c =
-    let l = c.before.loop in
+loop-rest-preserved : tie.Need-loop-rest-preserved invariant-loop-rest decreases-loop-rest
+loop-rest-preserved c =
+    let l = c.before.loop-rest in
     let more = decimal_more l.rest (omega arith) (omega (arith, c.before.before.ranges.n)) in
     let size = simp length-append at (ap length more) in (
       (omega arith, omega arith),
@@ -58,24 +58,24 @@ loop-again c =
       ),
     )
 
-sub-start-2 : tie.Need-overflow-sub-start-2 invariant-loop decreases-loop
-sub-start-2 c = omega (arith, decimal_some c.before.loop.rest)
+overflow_sub-start-2 : tie.Need-overflow_sub-start-2 invariant-loop-rest decreases-loop-rest
+overflow_sub-start-2 c = omega (arith, decimal_some c.before.loop-rest.rest)
 
-cast-out-2 : tie.Need-overflow-cast-out-2 invariant-loop decreases-loop
-cast-out-2 c = omega arith
+overflow_cast-out-2 : tie.Need-overflow_cast-out-2 invariant-loop-rest decreases-loop-rest
+overflow_cast-out-2 c = omega arith
 
-add-out-2 : tie.Need-overflow-add-out-2 invariant-loop decreases-loop
-add-out-2 c = omega arith
+overflow_add-out-2 : tie.Need-overflow_add-out-2 invariant-loop-rest decreases-loop-rest
+overflow_add-out-2 c = omega arith
 
-slice-write-out-2 : tie.Need-slice-write-out-2 invariant-loop decreases-loop
-slice-write-out-2 c = omega (arith, decimal_some c.before.loop.rest)
+bounds-out-start-2 : tie.Need-bounds-out-start-2 invariant-loop-rest decreases-loop-rest
+bounds-out-start-2 c = omega (arith, decimal_some c.before.loop-rest.rest)
 
-same_length : tie.Need-same-length invariant-loop decreases-loop
-same_length c = length-set c.before.loop.out (c.before.loop.start - 1) _ ∙ c.before.loop.invariant.1.1.0
+shape_of-out : tie.Need-shape_of-out invariant-loop-rest decreases-loop-rest
+shape_of-out c = length-set c.before.loop-rest.out (c.before.loop-rest.start - 1) _ ∙ c.before.loop-rest.invariant.1.1.0
 
-returns : tie.Need-returns invariant-loop decreases-loop
+returns : tie.Need-returns invariant-loop-rest decreases-loop-rest
 returns c =
-    let l = c.before.loop in
+    let l = c.before.loop-rest in
     let one = decimal_one l.rest (omega arith) in
     let size = ap length one in (
       omega (arith, size),
@@ -84,22 +84,5 @@ returns c =
           ∙ l.invariant.1.1.1,
     )
 
-pub decimal-before-spec : {M : Type 1} → statement M
-decimal-before-spec =
-    tie.close
-    (tie.spec
-    invariant-loop
-    decreases-loop
-    loop-holds
-    sub-start
-    cast-out
-    add-out
-    slice-write-out
-    loop-less
-    loop-again
-    sub-start-2
-    cast-out-2
-    add-out-2
-    slice-write-out-2
-    same_length
-    returns)
+pub decimal_before_spec : {M : Type 1} → statement M
+decimal_before_spec = tie.close (tie.spec invariant-loop-rest decreases-loop-rest loop-rest-init overflow_sub-start overflow_cast-out overflow_add-out bounds-out-start loop-rest-smaller loop-rest-preserved overflow_sub-start-2 overflow_cast-out-2 overflow_add-out-2 bounds-out-start-2 shape_of-out returns)

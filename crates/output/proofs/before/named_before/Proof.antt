@@ -8,22 +8,22 @@ use Rattle.output.proofs.Fronts.{before_append}
 use Rattle.output.proofs.before.named_before.Statement.{statement}
 use Rattle.output.proofs.before.named_before.Tie as tie
 
-decimal-before-requires : tie.Need-decimal-before-requires
-decimal-before-requires c κs =
+decimal_before-digits-requires : tie.Need-decimal_before-digits-requires
+decimal_before-digits-requires c κs =
     let s = c.before.before.before in
     (omega (arith, s.requires, length-append s.args.text.now (decimal s.args.n)), s.requires.1)
 
-text-before-requires : tie.Need-text-before-requires
-text-before-requires c κs =
+text_before-requires : tie.Need-text_before-requires
+text_before-requires c κs =
     let d = c.before.before.before in
     let s = d.before.before.before.before in
-    let n = d.decimal-before in (
+    let n = d.decimal_before-digits in (
       omega (arith, s.requires, n.ensures.0, length-append s.args.text.now (decimal s.args.n)),
       omega (arith, s.requires, n.ensures.0, n.auto.1.0),
     )
 
-same_length : tie.Need-same-length
-same_length c = search rules
+shape_of-out : tie.Need-shape_of-out
+shape_of-out c = search rules
 
 returns : tie.Need-returns
 returns c =
@@ -31,14 +31,13 @@ returns c =
     let d = t.before.before.before.before in
     let s = d.before.before.before.before in
     let a = s.args in
-    let w = t.text-before.ensures in
-    let n = d.decimal-before.ensures in
+    let w = t.text_before.ensures in
+    let n = d.decimal_before-digits.ensures in
     let size = length-append a.text.now (decimal a.n) in (
       omega (arith, w.0, n.0, size),
       w.1
           ∙ rw (n.0, n.1) (before_append a.text.now (decimal a.n) a.out.now a.at (omega (arith, s.requires, size)) s.requires.1),
     )
 
-pub named-before-spec : {M : Type 1} → statement M
-named-before-spec =
-    tie.close (tie.spec decimal-before-requires text-before-requires same_length returns)
+pub named_before_spec : {M : Type 1} → statement M
+named_before_spec = tie.close (tie.spec decimal_before-digits-requires text_before-requires shape_of-out returns)

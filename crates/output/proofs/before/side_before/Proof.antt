@@ -8,67 +8,55 @@ use Rattle.protocol.specs.Program.{side_text}
 use Rattle.output.proofs.before.side_before.Statement.{statement}
 use Rattle.output.proofs.before.side_before.Tie as tie
 
-allow : (c : tie.After-enum-told) → side_text c.before.before.before.args.side ≡ octets "allow"
+allow : (c : tie.In-Allow) → side_text c.before.before.args.side ≡ octets "allow"
 unfolding side_text
-allow c = ap side_text c.enum_told.given.1
+allow c = ap side_text c.in-Allow.is
 
-disallow : (c : tie.After-enum-told2) → side_text c.before.before.before.args.side ≡ octets "disallow"
+disallow : (c : tie.In-Disallow) → side_text c.before.before.args.side ≡ octets "disallow"
 unfolding side_text
-disallow c = ap side_text c.enum-told2.given.1
+disallow c = ap side_text c.in-Disallow.is
 
-enum_told : tie.Need-enum-told
-enum_told c = search rules
+enum_told-1 : tie.Need-enum_told-1
+enum_told-1 c = search rules
 
 slice-aggregate-text-before : tie.Need-slice-aggregate-text-before
 slice-aggregate-text-before c = search rules
 
-text-before-requires : tie.Need-text-before-requires
+text_before-requires : tie.Need-text_before-requires
 unfolding octets
-text-before-requires c κs =
+text_before-requires c κs =
     let t = c.before.before in
     let p = t.before.before.before.requires in
-    (omega (arith, p, ap length (allow t)), p.1)
+    (omega (arith, p, ap length (allow t.before)), p.1)
 
-enum-told-2 : tie.Need-enum-told-2
-enum-told-2 c = search rules
+enum_told-in-Disallow : tie.Need-enum_told-in-Disallow
+enum_told-in-Disallow c = search rules
 
 slice-aggregate-text-before-2 : tie.Need-slice-aggregate-text-before-2
 slice-aggregate-text-before-2 c = search rules
 
-text-before-requires-2 : tie.Need-text-before-requires-2
+text_before-requires-in-Disallow : tie.Need-text_before-requires-in-Disallow
 unfolding octets
-text-before-requires-2 c κs =
+text_before-requires-in-Disallow c κs =
     let t = c.before.before in
     let p = t.before.before.before.requires in
-    (omega (arith, p, ap length (disallow t)), p.1)
+    (omega (arith, p, ap length (disallow t.before)), p.1)
 
-same_length : tie.Need-same-length
-same_length c = search rules
+shape_of-out-in-Allow : tie.Need-shape_of-out-in-Allow
+shape_of-out-in-Allow c = search rules
 
-returns : tie.Need-returns
+returns-in-Allow : tie.Need-returns-in-Allow
 unfolding octets
-returns c =
-    rw (allow c.before.before.before.before.before) c.before.before.text-before.ensures
+returns-in-Allow c =
+    rw (allow c.before.before.before.before.before.before) c.before.before.text_before.ensures
 
-same-length-2 : tie.Need-same-length-2
-same-length-2 c = search rules
+shape_of-out-in-Disallow : tie.Need-shape_of-out-in-Disallow
+shape_of-out-in-Disallow c = search rules
 
-returns-2 : tie.Need-returns-2
+returns-in-Disallow : tie.Need-returns-in-Disallow
 unfolding octets
-returns-2 c =
-    rw (disallow c.before.before.before.before.before) c.before.before.text-before2.ensures
+returns-in-Disallow c =
+    rw (disallow c.before.before.before.before.before.before) c.before.before.text_before-in-Disallow.ensures
 
-pub side-before-spec : {M : Type 1} → statement M
-side-before-spec =
-    tie.close
-    (tie.spec
-    enum_told
-    slice-aggregate-text-before
-    text-before-requires
-    enum-told-2
-    slice-aggregate-text-before-2
-    text-before-requires-2
-    same_length
-    returns
-    same-length-2
-    returns-2)
+pub side_before_spec : {M : Type 1} → statement M
+side_before_spec = tie.close (tie.spec enum_told-1 text_before-requires enum_told-in-Disallow text_before-requires-in-Disallow shape_of-out-in-Allow returns-in-Allow shape_of-out-in-Disallow returns-in-Disallow)

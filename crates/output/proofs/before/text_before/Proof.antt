@@ -10,39 +10,39 @@ use Rattle.output.proofs.Fronts.{sets_before}
 use Rattle.output.proofs.before.text_before.Statement.{statement}
 use Rattle.output.proofs.before.text_before.Tie as tie
 
-abbrev invariant-loop : tie.invariant-loop
-invariant-loop text out₀ at start i₀ out i = (length out ≡ length out₀) × (sets out (start + i) (drop i text) ≡ sets out₀ start text)
+abbrev invariant-loop-i : tie.invariant-loop-i
+invariant-loop-i text out₀ at start i₀ out i = (length out ≡ length out₀) × (sets out (start + i) (drop i text) ≡ sets out₀ start text)
 
-abbrev decreases-loop : tie.decreases-loop
-decreases-loop text out₀ at start i₀ out i = length text - i
+abbrev decreases-loop-i : tie.decreases-loop-i
+decreases-loop-i text out₀ at start i₀ out i = length text - i
 
-sub-start : tie.Need-overflow-sub-start invariant-loop decreases-loop
-sub-start c = omega arith
+overflow_sub-start : tie.Need-overflow_sub-start invariant-loop-i decreases-loop-i
+overflow_sub-start c = omega arith
 
-loop-holds : tie.Need-loop-init invariant-loop decreases-loop
-loop-holds c =
+loop-i-init : tie.Need-loop-i-init invariant-loop-i decreases-loop-i
+loop-i-init c =
     let a = c.args in
     let e : a.at - length a.text.now + 0 ≡ a.at - length a.text.now = omega arith in
     (refl, rw e)
 
-shared-slice-read-out : tie.Need-shared-slice-read-out invariant-loop decreases-loop
-shared-slice-read-out c = omega arith
+bounds-text-i : tie.Need-bounds-text-i invariant-loop-i decreases-loop-i
+bounds-text-i c = omega arith
 
-add-out : tie.Need-overflow-add-out invariant-loop decreases-loop
-add-out c = omega arith
+overflow_add-out : tie.Need-overflow_add-out invariant-loop-i decreases-loop-i
+overflow_add-out c = omega arith
 
-slice-write-out : tie.Need-slice-write-out invariant-loop decreases-loop
-slice-write-out c = omega arith
+bounds-out-start : tie.Need-bounds-out-start invariant-loop-i decreases-loop-i
+bounds-out-start c = omega arith
 
-add-i : tie.Need-overflow-add-i invariant-loop decreases-loop
-add-i c = omega arith
+overflow_add-i : tie.Need-overflow_add-i invariant-loop-i decreases-loop-i
+overflow_add-i c = omega arith
 
-loop-less : tie.Need-loop-smaller invariant-loop decreases-loop
-loop-less c = omega arith
+loop-i-smaller : tie.Need-loop-i-smaller invariant-loop-i decreases-loop-i
+loop-i-smaller c = omega arith
 
-loop-again : tie.Need-loop-preserved invariant-loop decreases-loop
-loop-again c =
-    let l = c.before.before.loop in
+loop-i-preserved : tie.Need-loop-i-preserved invariant-loop-i decreases-loop-i
+loop-i-preserved c =
+    let l = c.before.before.loop-i in
     let a = c.before.before.before.args in
     let start = a.at - length a.text.now in
     let e : start + (l.i + 1) ≡ suc (start + l.i) = omega arith in (
@@ -50,31 +50,17 @@ loop-again c =
       rw e (rw (drop_one a.text.now l.i 0 (omega arith)) at l.invariant.1),
     )
 
-same_length : tie.Need-same-length invariant-loop decreases-loop
-same_length c = search rules
+shape_of-out : tie.Need-shape_of-out invariant-loop-i decreases-loop-i
+shape_of-out c = search rules
 
-returns : tie.Need-returns invariant-loop decreases-loop
+returns : tie.Need-returns invariant-loop-i decreases-loop-i
 returns c =
-    let l = c.before.loop in
+    let l = c.before.loop-i in
     let a = c.before.before.args in (
       refl,
       rw (drop_of_length-le a.text.now {i = l.i} (omega arith)) at l.invariant.1
           ∙ sets_before a.text.now a.out.now a.at (omega arith) (omega arith),
     )
 
-pub text-before-spec : {M : Type 1} → statement M
-text-before-spec =
-    tie.close
-    (tie.spec
-    invariant-loop
-    decreases-loop
-    sub-start
-    loop-holds
-    shared-slice-read-out
-    add-out
-    slice-write-out
-    add-i
-    loop-less
-    loop-again
-    same_length
-    returns)
+pub text_before_spec : {M : Type 1} → statement M
+text_before_spec = tie.close (tie.spec invariant-loop-i decreases-loop-i overflow_sub-start loop-i-init bounds-text-i overflow_add-out bounds-out-start overflow_add-i loop-i-smaller loop-i-preserved shape_of-out returns)

@@ -11,22 +11,22 @@ use Rattle.protocol.specs.Program.{behind}
 use Rattle.output.proofs.parts.behind.Statement.{statement}
 use Rattle.output.proofs.parts.behind.Tie as tie
 
-find-requires : tie.Need-find-requires
-find-requires c κs = tt
+find-end-requires : tie.Need-find-end-requires
+find-end-requires c κs = tt
 
-sub-result : tie.Need-overflow-sub-result
-sub-result c = search rules
+slice_bounds-result-count : tie.Need-slice_bounds-result-count
+slice_bounds-result-count c = search rules
 
-part-result-start : tie.Need-slice-bounds-result-start
-part-result-start c = search rules
+slice_bounds-result-start : tie.Need-slice_bounds-result-start
+slice_bounds-result-start c = search rules
 
-part-result-end : tie.Need-slice-bounds-result-end
-part-result-end c = search rules
+slice_bounds-result-end : tie.Need-slice_bounds-result-end
+slice_bounds-result-end c = search rules
 
-returns : tie.Need-returns
+returns-then-end-s : tie.Need-returns-then-end-s
 unfolding behind
-returns c =
-    let f = c.before.before.find in
+returns-then-end-s c =
+    let f = c.before.before.find-end in
     let s = c.before.before.before.before.args.s.now in
     rest_of f.result s
     ∙ drop_of_length-le s {i = f.result} (omega arith)
@@ -34,39 +34,27 @@ returns c =
     ∙ drop_past (equals 10) s
 
 -- an LF stands inside
-inside : (c : tie.Else1) → c.before.find.result + 1 ≤ length c.before.before.before.args.s.now
-inside c = omega (arith, c.before.find.ensures, up_to_fits (equals 10) c.before.before.before.args.s.now)
+inside : (c : tie.Else-end-s) → c.before.find-end.result + 1 ≤ length c.before.before.before.args.s.now
+inside c = omega (arith, c.before.find-end.ensures, up_to_fits (equals 10) c.before.before.before.args.s.now)
 
-add-result : tie.Need-overflow-add-result
-add-result c = omega (arith, inside c)
+overflow_add-result : tie.Need-overflow_add-result
+overflow_add-result c = omega (arith, inside c)
 
-sub-result-2 : tie.Need-overflow-sub-result-2
-sub-result-2 c = omega (arith, inside c)
+slice_bounds-result-count-2 : tie.Need-slice_bounds-result-count-2
+slice_bounds-result-count-2 c = omega (arith, inside c)
 
-part-result-start-2 : tie.Need-slice-bounds-result-start-2
-part-result-start-2 c = omega (arith, inside c)
+slice_bounds-result-start-2 : tie.Need-slice_bounds-result-start-2
+slice_bounds-result-start-2 c = omega (arith, inside c)
 
-part-result-end-2 : tie.Need-slice-bounds-result-end-2
-part-result-end-2 c = search rules
+slice_bounds-result-end-2 : tie.Need-slice_bounds-result-end-2
+slice_bounds-result-end-2 c = search rules
 
-returns-2 : tie.Need-returns-2
+returns : tie.Need-returns
 unfolding behind
-returns-2 c =
-    let f = c.before.before.find in
+returns c =
+    let f = c.before.before.find-end in
     let s = c.before.before.before.before.args.s.now in
     rest_of (f.result + 1) s ∙ ap (λ (n : ℕ). drop (n + 1) s) f.ensures ∙ drop_past (equals 10) s
 
-pub behind-spec : {M : Type 1} → statement M
-behind-spec =
-    tie.close
-    (tie.spec
-    find-requires
-    sub-result
-    part-result-start
-    part-result-end
-    returns
-    add-result
-    sub-result-2
-    part-result-start-2
-    part-result-end-2
-    returns-2)
+pub behind_spec : {M : Type 1} → statement M
+behind_spec = tie.close (tie.spec find-end-requires slice_bounds-result-count slice_bounds-result-start slice_bounds-result-end returns-then-end-s overflow_add-result slice_bounds-result-count-2 slice_bounds-result-start-2 slice_bounds-result-end-2 returns)

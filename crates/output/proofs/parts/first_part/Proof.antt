@@ -8,16 +8,16 @@ use Rattle.protocol.specs.Program.{first_part}
 use Rattle.output.proofs.parts.first_part.Statement.{statement}
 use Rattle.output.proofs.parts.first_part.Tie as tie
 
-find-requires : tie.Need-find-requires
-find-requires c κs = tt
+find-end-requires : tie.Need-find-end-requires
+find-end-requires c κs = tt
 
-slice-aggregate-result : tie.Need-slice-aggregate-result
-slice-aggregate-result c =
-    sym (length-take-le _ _ (omega (arith, c.before.find.ensures, up_to_fits (equals 10) c.before.before.before.args.s.now)))
+slice_bounds-result-end : tie.Need-slice_bounds-result-end
+slice_bounds-result-end c =
+    sym (length-take-le _ _ (omega (arith, c.find-end.ensures, up_to_fits (equals 10) c.before.before.args.s.now)))
 
 returns : tie.Need-returns
 unfolding first_part
-returns c = rw c.before.find.ensures (take_up_to (equals 10) c.before.before.before.args.s.now)
+returns c = rw c.find-end.ensures (take_up_to (equals 10) c.before.before.args.s.now)
 
-pub first-part-spec : {M : Type 1} → statement M
-first-part-spec = tie.close (tie.spec find-requires slice-aggregate-result returns)
+pub first_part_spec : {M : Type 1} → statement M
+first_part_spec = tie.close (tie.spec find-end-requires slice_bounds-result-end returns)
