@@ -15,6 +15,7 @@ use Rattle.protocol.specs.Normal.{is_encoded}
 use Rattle.normal.specs.Literal.{not_literal}
 use Rattle.normal.proofs.Literal.{encoded_other}
 use Rattle.normal.proofs.may_change.Statement.{statement}
+use Rattle.normal.proofs.may_change.Lts.{then-path-ge8, else-path-ge8}
 use Rattle.normal.proofs.may_change.Tie as tie
 
 abbrev invariant-loop-i : tie.invariant-loop-i
@@ -32,7 +33,10 @@ module _ (c : tie.Joined-path-ge8 invariant-loop-i decreases-loop-i) where
 
   -- no octet that isn't literal is passed over
   clear : c.if-path-ge8.i ≤ length (up_to not_literal whole)
-  clear = ⊎_elim (λ t. omega (arith, t.2, t.1.ensures)) (λ t. omega (arith, t.1)) c.if-path-ge8.branch
+  clear = elim c.if-path-ge8.branch [
+    then-path-ge8 w ↦ omega (arith, w.i-is, w.clear_front-i.ensures)
+    | else-path-ge8 w ↦ omega (arith, w.i-is)
+  ]
 
 loop-i-init : tie.Need-loop-i-init invariant-loop-i decreases-loop-i
 loop-i-init c =

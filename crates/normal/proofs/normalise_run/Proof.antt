@@ -13,19 +13,19 @@ fits-requires : tie.Need-fits-requires
 fits-requires c κs = search rules
 
 -- the test of the room
-module _ (c : tie.After-fits2) where
+module _ (c : tie.After-fits) where
   abbrev entry : tie.Start
   entry = c.before.before.before
 
-  told : leb (length (normal entry.args.stars 0 entry.args.run.now)) (length entry.args.scratch.now) ≡ c.fits2.result
-  told = sym c.fits2.ensures
+  told : leb (length (normal entry.args.stars 0 entry.args.run.now)) (length entry.args.scratch.now) ≡ c.fits.result
+  told = sym c.fits.ensures
 
 returns-then-not-fits : tie.Need-returns-then-not-fits
 unfolding run_of run_scratch
-returns-then-not-fits c = rw (told c.before ∙ not-true _ c.if-not-fits.true) (refl, refl)
+returns-then-not-fits c = rw (told c.before ∙ c.if-not-fits.true) (refl, refl)
 
 write-n-requires : tie.Need-write-n-requires
-write-n-requires c κs = leb-true _ _ (told c.before.before ∙ not-false _ c.before.if-not-fits.false)
+write-n-requires c κs = leb-true _ _ (told c.before.before ∙ c.before.if-not-fits.false)
 
 shape_of-scratch : tie.Need-shape_of-scratch
 shape_of-scratch c = search rules
@@ -35,7 +35,7 @@ unfolding run_of run_scratch
 returns c =
     let w = c.before.before in
     let l = w.before.before in
-    rw (told l.before ∙ not-false _ l.if-not-fits.false, w.write-n.ensures.0, w.write-n.ensures.1) (refl, refl)
+    rw (told l.before ∙ l.if-not-fits.false, w.write-n.ensures.0, w.write-n.ensures.1) (refl, refl)
 
 pub normalise_run_spec : {M : Type 1} → statement M
 normalise_run_spec = tie.close (tie.spec fits-requires returns-then-not-fits write-n-requires shape_of-scratch returns)

@@ -41,7 +41,7 @@ module _ (c : tie.At-loop-i invariant-loop-i decreases-loop-i) where
   entry = copied.before.before.before.before
 
   same : length c.loop-i.out ≡ length entry.args.out.now
-  same = c.loop-i.invariant.size ∙ copied.write_literal-i.kept.1.0
+  same = c.loop-i.invariant.size ∙ copied.write_literal-i.auto.out
 
   -- where the octets in front end
   ended : up_to (is_encoded entry.args.stars) (drop c.loop-i.i entry.args.s.now) ≡ []

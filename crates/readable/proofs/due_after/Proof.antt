@@ -78,24 +78,24 @@ returns-in-226 c = let p = c.before.before in arm p 9 226 refl refl (ap due_rang
 
 returns-in-0-to-66 : tie.Need-returns-in-0-to-66
 unfolding class_forms all
-returns-in-0-to-66 c = let p = c.before.before.before in arm p 0 0 refl refl (ap due_ranges c.due_octets-in-0-to-66.ensures) (omega arith) (omega arith)
+returns-in-0-to-66 c = let p = c.before.before in arm p 0 0 refl refl (ap due_ranges c.due_octets-in-0-to-66.ensures) (omega arith) (omega arith)
 
 returns-in-67-to-96 : tie.Need-returns-in-67-to-96
 unfolding class_forms all
-returns-in-67-to-96 c = let p = c.before.before.before in arm p 1 67 refl refl (ap due_ranges c.due_octets-in-67-to-96.ensures) (omega arith) (omega arith)
+returns-in-67-to-96 c = let p = c.before.before in arm p 1 67 refl refl (ap due_ranges c.due_octets-in-67-to-96.ensures) (omega arith) (omega arith)
 
 returns-in-98-to-111 : tie.Need-returns-in-98-to-111
 unfolding class_forms all
-returns-in-98-to-111 c = let p = c.before.before.before in arm p 3 98 refl refl (ap due_ranges c.due_octets-in-98-to-111.ensures) (omega arith) (omega arith)
+returns-in-98-to-111 c = let p = c.before.before in arm p 3 98 refl refl (ap due_ranges c.due_octets-in-98-to-111.ensures) (omega arith) (omega arith)
 
 returns-in-114-to-116 : tie.Need-returns-in-114-to-116
 unfolding class_forms all
-returns-in-114-to-116 c = let p = c.before.before.before in arm p 6 114 refl refl (ap due_ranges c.due_octets-in-114-to-116.ensures) (omega arith) (omega arith)
+returns-in-114-to-116 c = let p = c.before.before in arm p 6 114 refl refl (ap due_ranges c.due_octets-in-114-to-116.ensures) (omega arith) (omega arith)
 
 returns-in_default : tie.Need-returns-in_default
 unfolding class_forms all
 returns-in_default c =
-    let p = c.before.before.before in
+    let p = c.before.before in
     let e = ap due_ranges c.never_due.ensures in
     let class = p.class_of.result in
     split (leb class 225) (λ t. arm p 8 118 refl refl e (omega arith) (leb-true class 225 t))

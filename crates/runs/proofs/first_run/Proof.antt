@@ -9,6 +9,7 @@ use Rattle.protocol.specs.Walk.{tried, placed, first}
 use Rattle.protocol.proofs.Tries.{tried_most}
 use Rattle.protocol.proofs.Steps.{first_out, first_short, first_in}
 use Rattle.runs.proofs.first_run.Statement.{statement}
+use Rattle.runs.proofs.first_run.Lts.{then-last+else-run-path, else-last}
 use Rattle.runs.proofs.first_run.Tie as tie
 
 fail-requires : tie.Need-fail-requires
@@ -36,7 +37,10 @@ module _ (c : tie.Joined-last) where
   whole : first entry.args.last entry.args.run.now entry.args.path.now ≡ placed (length entry.args.run.now) 0 (tried entry.args.run.now entry.args.path.now 0)
   whole =
       first_in entry.args.run.now entry.args.path.now entry.args.last (omega arith)
-      (⊎_elim (λ w. λ _. w.1.left) (λ w. λ e. absurd (true≢false (sym e ∙ w.left))) c.if-last.branch)
+      (elim c.if-last.branch [
+        then-last+else-run-path w ↦ λ _. w.if-run-path.false
+        | else-last w ↦ λ e. absurd (true≢false (sym e ∙ w.if-last.false))
+      ])
 
 try_run-t-requires : tie.Need-try_run-t-requires
 try_run-t-requires c κs = (omega arith, omega (arith, tried_most (entry c).args.run.now (entry c).args.path.now 0))

@@ -80,7 +80,7 @@ returns-then-not-f c =
     let f = c.before.before.before in
     let s = turn f in
     c.fail.ensures
-    ∙ sym (firsts_spent (path s) s.loop-at.at s.loop-at.count (run s) f.try_first-f.result s.before.if-run-eq0.left (omega arith) f.try_first-f.ensures (not-true _ c.before.if-not-f.true))
+    ∙ sym (firsts_spent (path s) s.loop-at.at s.loop-at.count (run s) f.try_first-f.result s.before.if-run-eq0.false (omega arith) f.try_first-f.ensures (not-true _ c.before.if-not-f.true))
     ∙ s.loop-at.invariant.1
 
 -- the search goes on behind the run's first octet
@@ -91,7 +91,7 @@ module _ (c : tie.Else-not-f invariant-loop-at decreases-loop-at) where
   found : Found (run (turn first)) (path (turn first)) (turn first).loop-at.at (turn first).loop-at.count first.try_first-f.result
   found =
       let s = turn first in
-      firsts_found (path s) s.loop-at.at s.loop-at.count (run s) first.try_first-f.result s.before.if-run-eq0.left (omega arith) first.try_first-f.ensures (not-false _ c.if-not-f.false)
+      firsts_found (path s) s.loop-at.at s.loop-at.count (run s) first.try_first-f.result s.before.if-run-eq0.false (omega arith) first.try_first-f.ensures (not-false _ c.if-not-f.false)
 
 overflow_sub-at : tie.Need-overflow_sub-at invariant-loop-at decreases-loop-at
 overflow_sub-at c = omega (arith, (found c.before).more)

@@ -16,76 +16,62 @@ use Rattle.lines.proofs.Skips.{front_here, front_sought}
 use Rattle.lines.proofs.skip.behind_line.Statement.{statement}
 use Rattle.lines.proofs.skip.behind_line.Tie as tie
 
-seek-requires : tie.Need-seek-requires
-seek-requires c κs = tt
+seek-end-requires : tie.Need-seek-end-requires
+seek-end-requires c κs = tt
 
 -- the first octet that may end a line
-module _ (c : tie.After-seek) where
+module _ (c : tie.After-seek-end) where
   abbrev text : List ℕ
   text = c.before.before.args.s.now
 
   abbrev i : ℕ
-  i = c.seek.result.offset
+  i = c.seek-end.result.offset
 
   found : i ≡ length (up_to (among 10 13 true) text)
-  found = ap (λ (p : Place). p.offset) c.seek.ensures ∙ zero-add _
+  found = ap (λ (p : Place). p.offset) c.seek-end.ensures ∙ zero-add _
 
   fits : i ≤ length text
   fits = omega (arith, found, up_to_fits (among 10 13 true) text)
 
-sub-if1 : tie.Need-overflow-sub-if1
-sub-if1 c = fits c
+overflow_sub-s : tie.Need-overflow_sub-s
+overflow_sub-s c = fits c
 
-returns : tie.Need-returns
-returns c = (omega arith, λ h. absurd (omega arith))
+returns-then-s-i-lt2 : tie.Need-returns-then-s-i-lt2
+returns-then-s-i-lt2 c = (omega arith, λ h. absurd (omega arith))
 
-shared-slice-read-ends-line : tie.Need-shared-slice-read-ends-line
-shared-slice-read-ends-line c = omega (arith, c.before.if1.false, fits c.before.before)
+bounds-s-i : tie.Need-bounds-s-i
+bounds-s-i c = omega (arith, c.before.if-s-i-lt2.false, fits c.before.before)
 
-ends-line-requires : tie.Need-ends-line-requires
-ends-line-requires c κs = tt
+ends_line-requires : tie.Need-ends_line-requires
+ends_line-requires c κs = tt
 
-add-may-begin : tie.Need-overflow-add-may-begin
-add-may-begin c = omega arith
+overflow_add-i : tie.Need-overflow_add-i
+overflow_add-i c = omega arith
 
-shared-slice-read-may-begin : tie.Need-shared-slice-read-may-begin
-shared-slice-read-may-begin c = omega arith
+bounds-s-i-then-ends_line : tie.Need-bounds-s-i-then-ends_line
+bounds-s-i-then-ends_line c = omega arith
 
-may-begin-requires : tie.Need-may-begin-requires
-may-begin-requires c κs = tt
+may_begin-requires : tie.Need-may_begin-requires
+may_begin-requires c κs = tt
 
-add-result : tie.Need-overflow-add-result
-add-result c = omega arith
+overflow_add-result : tie.Need-overflow_add-result
+overflow_add-result c = omega arith
 
-returns-2 : tie.Need-returns-2
-returns-2 c =
+returns-then-may_begin : tie.Need-returns-then-may_begin
+returns-then-may_begin c =
     let m = c.before in
     let e = m.before.before.before in
     let k = e.before.before.before in
-    let told = sym (ap₂ ◌&&◌ e.ends-line.ensures m.may-begin.ensures) in
-    let inside : i k + 1 < length (text k) = omega (arith, e.before.before.if1.false, fits k) in
-    let here = front_here (pairs_next (text k) (i k) inside) (told ∙ ap₂ ◌&&◌ m.before.before.if2.true c.if3.true) in
+    let told = sym (ap₂ ◌&&◌ e.ends_line.ensures m.may_begin.ensures) in
+    let inside : i k + 1 < length (text k) = omega (arith, e.before.before.if-s-i-lt2.false, fits k) in
+    let here = front_here (pairs_next (text k) (i k) inside) (told ∙ ap₂ ◌&&◌ m.before.before.if-ends_line.true c.if-may_begin.true) in
     (omega (arith, inside), λ h. omega (arith, here, front_sought (text k) (i k) (found k) (omega (arith, inside))))
 
-returns-3 : tie.Need-returns-3
-returns-3 c = (omega arith, λ h. absurd (omega arith))
+returns-else-may_begin : tie.Need-returns-else-may_begin
+returns-else-may_begin c = (omega arith, λ h. absurd (omega arith))
 
-returns-4 : tie.Need-returns-4
-returns-4 c = (omega arith, λ h. absurd (omega arith))
+returns-else-ends_line : tie.Need-returns-else-ends_line
+returns-else-ends_line c = (omega arith, λ h. absurd (omega arith))
 
-pub behind-line-spec : {M : Type 1} → statement M
-behind-line-spec =
-    tie.close
-    (tie.spec
-    seek-requires
-    sub-if1
-    returns
-    shared-slice-read-ends-line
-    ends-line-requires
-    add-may-begin
-    shared-slice-read-may-begin
-    may-begin-requires
-    add-result
-    returns-2
-    returns-3
-    returns-4)
+pub behind_line_spec : {M : Type 1} → statement M
+behind_line_spec = tie.close (tie.spec seek-end-requires overflow_sub-s returns-then-s-i-lt2 bounds-s-i ends_line-requires overflow_add-i bounds-s-i-then-ends_line may_begin-requires overflow_add-result returns-then-may_begin returns-else-may_begin returns-else-ends_line)

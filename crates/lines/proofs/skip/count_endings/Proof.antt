@@ -12,56 +12,56 @@ use Rattle.lines.proofs.Skips.{endings_between, few_between}
 use Rattle.lines.proofs.skip.count_endings.Statement.{statement}
 use Rattle.lines.proofs.skip.count_endings.Tie as tie
 
-abbrev invariant-loop : tie.invariant-loop
-invariant-loop s end i₀ n₀ i n =
+abbrev invariant-loop-i : tie.invariant-loop-i
+invariant-loop-i s end i₀ n₀ i n =
     (i ≤ end) × (end < length s) × (n + endings (between s (place_at i) (place_at end)) ≡ endings (between s (place_at i₀) (place_at end)))
 
-abbrev decreases-loop : tie.decreases-loop
-decreases-loop s end i₀ n₀ i n = end - i
+abbrev decreases-loop-i : tie.decreases-loop-i
+decreases-loop-i s end i₀ n₀ i n = end - i
 
-loop-holds : tie.Need-loop-init invariant-loop decreases-loop
-loop-holds c = omega arith
+loop-i-init : tie.Need-loop-i-init invariant-loop-i decreases-loop-i
+loop-i-init c = omega arith
 
-sub-loop : tie.Need-overflow-sub-loop invariant-loop decreases-loop
-sub-loop c = omega arith
+overflow_sub-end : tie.Need-overflow_sub-end invariant-loop-i decreases-loop-i
+overflow_sub-end c = omega arith
 
-add-few-endings : tie.Need-overflow-add-few-endings invariant-loop decreases-loop
-add-few-endings c = omega arith
+overflow_add-i : tie.Need-overflow_add-i invariant-loop-i decreases-loop-i
+overflow_add-i c = omega arith
 
-sub-few-endings : tie.Need-overflow-sub-few-endings invariant-loop decreases-loop
-sub-few-endings c = omega arith
+slice_bounds-few_endings-count : tie.Need-slice_bounds-few_endings-count invariant-loop-i decreases-loop-i
+slice_bounds-few_endings-count c = omega arith
 
-part-few-endings-start : tie.Need-slice-bounds-few-endings-start invariant-loop decreases-loop
-part-few-endings-start c = omega arith
+slice_bounds-few_endings-start : tie.Need-slice_bounds-few_endings-start invariant-loop-i decreases-loop-i
+slice_bounds-few_endings-start c = omega arith
 
-part-few-endings-end : tie.Need-slice-bounds-few-endings-end invariant-loop decreases-loop
-part-few-endings-end c = omega arith
+slice_bounds-few_endings-end : tie.Need-slice_bounds-few_endings-end invariant-loop-i decreases-loop-i
+slice_bounds-few_endings-end c = omega arith
 
-add-few-endings-2 : tie.Need-overflow-add-few-endings-2 invariant-loop decreases-loop
-add-few-endings-2 c = omega arith
+overflow_add-i-in-loop-i : tie.Need-overflow_add-i-in-loop-i invariant-loop-i decreases-loop-i
+overflow_add-i-in-loop-i c = omega arith
 
-add-few-endings-3 : tie.Need-overflow-add-few-endings-3 invariant-loop decreases-loop
-add-few-endings-3 c = omega arith
+overflow_add-i-in-loop-i-2 : tie.Need-overflow_add-i-in-loop-i-2 invariant-loop-i decreases-loop-i
+overflow_add-i-in-loop-i-2 c = omega arith
 
-sub-few-endings-2 : tie.Need-overflow-sub-few-endings-2 invariant-loop decreases-loop
-sub-few-endings-2 c = omega arith
+slice_bounds-few_endings-count-in-loop-i : tie.Need-slice_bounds-few_endings-count-in-loop-i invariant-loop-i decreases-loop-i
+slice_bounds-few_endings-count-in-loop-i c = omega arith
 
-part-few-endings-start-2 : tie.Need-slice-bounds-few-endings-start-2 invariant-loop decreases-loop
-part-few-endings-start-2 c = omega arith
+slice_bounds-few_endings-start-in-loop-i : tie.Need-slice_bounds-few_endings-start-in-loop-i invariant-loop-i decreases-loop-i
+slice_bounds-few_endings-start-in-loop-i c = omega arith
 
-part-few-endings-end-2 : tie.Need-slice-bounds-few-endings-end-2 invariant-loop decreases-loop
-part-few-endings-end-2 c = omega arith
+slice_bounds-few_endings-end-in-loop-i : tie.Need-slice_bounds-few_endings-end-in-loop-i invariant-loop-i decreases-loop-i
+slice_bounds-few_endings-end-in-loop-i c = omega arith
 
 -- the text, where the count has come to, and its end
-module _ (c : tie.At-loop invariant-loop decreases-loop) where
-  abbrev start : tie.Start invariant-loop decreases-loop
+module _ (c : tie.At-loop-i invariant-loop-i decreases-loop-i) where
+  abbrev start : tie.Start invariant-loop-i decreases-loop-i
   start = c.before.before
 
   abbrev text : List ℕ
   text = start.args.s.now
 
   abbrev i : ℕ
-  i = c.loop.i
+  i = c.loop-i.i
 
   abbrev here : Place
   here = place_at i
@@ -70,19 +70,19 @@ module _ (c : tie.At-loop invariant-loop decreases-loop) where
   end = start.args.to
 
   -- no more line endings than octets
-  few : c.loop.n + endings (between text here end) < length text
-  few = omega (arith, c.loop.invariant.2, few_between text start.args.from end)
+  few : c.loop-i.n + endings (between text here end) < length text
+  few = omega (arith, c.loop-i.invariant.2, few_between text start.args.from end)
 
-few-endings-requires : tie.Need-few-endings-requires invariant-loop decreases-loop
-few-endings-requires c κs =
+few_endings-n-requires : tie.Need-few_endings-n-requires invariant-loop-i decreases-loop-i
+few_endings-n-requires c κs =
     let t = c.before.before.before in
     let one = part_length (text t) (i t) 64 (i t + 64 - i t) (omega arith) (omega arith) in
     let other = part_length (text t) (i t + 1) 64 (i t + 65 - (i t + 1)) (omega arith) (omega arith) in
     (omega (arith, one), omega (arith, one, other))
 
 -- a block is counted
-module _ (c : tie.After-few-endings invariant-loop decreases-loop) where
-  abbrev turn : tie.At-loop invariant-loop decreases-loop
+module _ (c : tie.After-few_endings-n invariant-loop-i decreases-loop-i) where
+  abbrev turn : tie.At-loop-i invariant-loop-i decreases-loop-i
   turn = c.before.before.before.before
 
   abbrev next : Place
@@ -91,50 +91,50 @@ module _ (c : tie.After-few-endings invariant-loop decreases-loop) where
   same_size : i turn + 65 - (i turn + 1) ≡ i turn + 64 - i turn
   same_size = omega arith
 
-  block : c.few-endings.result ≡ endings (between (text turn) (here turn) next)
-  block = c.few-endings.ensures ∙ ap endings (pairs_part (text turn) (i turn) _ _ _ refl same_size)
+  block : c.few_endings-n.result ≡ endings (between (text turn) (here turn) next)
+  block = c.few_endings-n.ensures ∙ ap endings (pairs_part (text turn) (i turn) _ _ _ refl same_size)
 
   parts : endings (between (text turn) (here turn) (end turn)) ≡ endings (between (text turn) (here turn) next) + endings (between (text turn) next (end turn))
   parts = endings_between (text turn) (here turn) next (end turn) (omega arith) (omega arith)
 
-add-n : tie.Need-overflow-add-n invariant-loop decreases-loop
-add-n c = omega (arith, block c, parts c, few (turn c))
+overflow_add-n : tie.Need-overflow_add-n invariant-loop-i decreases-loop-i
+overflow_add-n c = omega (arith, block c, parts c, few (turn c))
 
-add-i : tie.Need-overflow-add-i invariant-loop decreases-loop
-add-i c = omega arith
+overflow_add-i-in-loop-i-3 : tie.Need-overflow_add-i-in-loop-i-3 invariant-loop-i decreases-loop-i
+overflow_add-i-in-loop-i-3 c = omega arith
 
-loop-less : tie.Need-loop-smaller invariant-loop decreases-loop
-loop-less c = omega arith
+loop-i-smaller : tie.Need-loop-i-smaller invariant-loop-i decreases-loop-i
+loop-i-smaller c = omega arith
 
-loop-again : tie.Need-loop-preserved invariant-loop decreases-loop
-loop-again c = (omega arith, omega arith, omega (arith, block c, parts c, (turn c).loop.invariant.2))
+loop-i-preserved : tie.Need-loop-i-preserved invariant-loop-i decreases-loop-i
+loop-i-preserved c = (omega arith, omega arith, omega (arith, block c, parts c, (turn c).loop-i.invariant.2))
 
-sub-few-endings-3 : tie.Need-overflow-sub-few-endings-3 invariant-loop decreases-loop
-sub-few-endings-3 c = omega arith
+slice_bounds-few_endings-count-2 : tie.Need-slice_bounds-few_endings-count-2 invariant-loop-i decreases-loop-i
+slice_bounds-few_endings-count-2 c = omega arith
 
-part-few-endings-start-3 : tie.Need-slice-bounds-few-endings-start-3 invariant-loop decreases-loop
-part-few-endings-start-3 c = omega arith
+slice_bounds-few_endings-start-2 : tie.Need-slice_bounds-few_endings-start-2 invariant-loop-i decreases-loop-i
+slice_bounds-few_endings-start-2 c = omega arith
 
-part-few-endings-end-3 : tie.Need-slice-bounds-few-endings-end-3 invariant-loop decreases-loop
-part-few-endings-end-3 c = omega arith
+slice_bounds-few_endings-end-2 : tie.Need-slice_bounds-few_endings-end-2 invariant-loop-i decreases-loop-i
+slice_bounds-few_endings-end-2 c = omega arith
 
-add-few-endings-4 : tie.Need-overflow-add-few-endings-4 invariant-loop decreases-loop
-add-few-endings-4 c = omega arith
+overflow_add-i-2 : tie.Need-overflow_add-i-2 invariant-loop-i decreases-loop-i
+overflow_add-i-2 c = omega arith
 
-add-few-endings-5 : tie.Need-overflow-add-few-endings-5 invariant-loop decreases-loop
-add-few-endings-5 c = omega arith
+overflow_add-end : tie.Need-overflow_add-end invariant-loop-i decreases-loop-i
+overflow_add-end c = omega arith
 
-sub-few-endings-4 : tie.Need-overflow-sub-few-endings-4 invariant-loop decreases-loop
-sub-few-endings-4 c = omega arith
+slice_bounds-few_endings-count-3 : tie.Need-slice_bounds-few_endings-count-3 invariant-loop-i decreases-loop-i
+slice_bounds-few_endings-count-3 c = omega arith
 
-part-few-endings-start-4 : tie.Need-slice-bounds-few-endings-start-4 invariant-loop decreases-loop
-part-few-endings-start-4 c = omega arith
+slice_bounds-few_endings-start-3 : tie.Need-slice_bounds-few_endings-start-3 invariant-loop-i decreases-loop-i
+slice_bounds-few_endings-start-3 c = omega arith
 
-part-few-endings-end-4 : tie.Need-slice-bounds-few-endings-end-4 invariant-loop decreases-loop
-part-few-endings-end-4 c = omega arith
+slice_bounds-few_endings-end-3 : tie.Need-slice_bounds-few_endings-end-3 invariant-loop-i decreases-loop-i
+slice_bounds-few_endings-end-3 c = omega arith
 
-few-endings-requires-2 : tie.Need-few-endings-requires-2 invariant-loop decreases-loop
-few-endings-requires-2 c κs =
+few_endings-requires : tie.Need-few_endings-requires invariant-loop-i decreases-loop-i
+few_endings-requires c κs =
     let t = c.before.before.before in
     let k = (end t).offset - i t in
     let one = part_length (text t) (i t) k k refl (omega arith) in
@@ -142,52 +142,21 @@ few-endings-requires-2 c κs =
     (omega (arith, one), omega (arith, one, other))
 
 -- and what is left
-module _ (c : tie.After-few-endings2 invariant-loop decreases-loop) where
-  abbrev last : tie.At-loop invariant-loop decreases-loop
+module _ (c : tie.After-few_endings invariant-loop-i decreases-loop-i) where
+  abbrev last : tie.At-loop-i invariant-loop-i decreases-loop-i
   last = c.before.before.before.before
 
   left-size : (end last).offset + 1 - (i last + 1) ≡ (end last).offset - i last
   left-size = omega arith
 
-  left : c.few-endings2.result ≡ endings (between (text last) (here last) (end last))
-  left = c.few-endings2.ensures ∙ ap endings (pairs_part (text last) (i last) _ _ _ refl left-size)
+  left : c.few_endings.result ≡ endings (between (text last) (here last) (end last))
+  left = c.few_endings.ensures ∙ ap endings (pairs_part (text last) (i last) _ _ _ refl left-size)
 
-add-result : tie.Need-overflow-add-result invariant-loop decreases-loop
-add-result c = omega (arith, left c, few (last c))
+overflow_add-result : tie.Need-overflow_add-result invariant-loop-i decreases-loop-i
+overflow_add-result c = omega (arith, left c, few (last c))
 
-returns : tie.Need-returns invariant-loop decreases-loop
-returns c = omega (arith, left c, (last c).loop.invariant.2)
+returns : tie.Need-returns invariant-loop-i decreases-loop-i
+returns c = omega (arith, left c, (last c).loop-i.invariant.2)
 
-pub count-endings-spec : {M : Type 1} → statement M
-count-endings-spec =
-    tie.close
-    (tie.spec
-    invariant-loop
-    decreases-loop
-    loop-holds
-    sub-loop
-    add-few-endings
-    sub-few-endings
-    part-few-endings-start
-    part-few-endings-end
-    add-few-endings-2
-    add-few-endings-3
-    sub-few-endings-2
-    part-few-endings-start-2
-    part-few-endings-end-2
-    few-endings-requires
-    add-n
-    add-i
-    loop-less
-    loop-again
-    sub-few-endings-3
-    part-few-endings-start-3
-    part-few-endings-end-3
-    add-few-endings-4
-    add-few-endings-5
-    sub-few-endings-4
-    part-few-endings-start-4
-    part-few-endings-end-4
-    few-endings-requires-2
-    add-result
-    returns)
+pub count_endings_spec : {M : Type 1} → statement M
+count_endings_spec = tie.close (tie.spec invariant-loop-i decreases-loop-i loop-i-init overflow_sub-end overflow_add-i slice_bounds-few_endings-count slice_bounds-few_endings-start slice_bounds-few_endings-end overflow_add-i-in-loop-i overflow_add-i-in-loop-i-2 slice_bounds-few_endings-count-in-loop-i slice_bounds-few_endings-start-in-loop-i slice_bounds-few_endings-end-in-loop-i few_endings-n-requires overflow_add-n overflow_add-i-in-loop-i-3 loop-i-smaller loop-i-preserved slice_bounds-few_endings-count-2 slice_bounds-few_endings-start-2 slice_bounds-few_endings-end-2 overflow_add-i-2 overflow_add-end slice_bounds-few_endings-count-3 slice_bounds-few_endings-start-3 slice_bounds-few_endings-end-3 few_endings-requires overflow_add-result returns)

@@ -8,5 +8,5 @@ returns : tie.Need-returns
 unfolding line_end
 returns c = refl
 
-pub ends-line-spec : {M : Type 1} → statement M
-ends-line-spec = tie.close (tie.spec returns)
+pub ends_line_spec : {M : Type 1} → statement M
+ends_line_spec = tie.close (tie.spec returns)

@@ -14,28 +14,28 @@ use Rattle.lines.proofs.Skips.{endings_next, endings_end}
 use Rattle.lines.proofs.skip.few_endings.Statement.{statement}
 use Rattle.lines.proofs.skip.few_endings.Tie as tie
 
-abbrev invariant-loop : tie.invariant-loop
-invariant-loop b behind n₀ i₀ n i =
+abbrev invariant-loop-i : tie.invariant-loop-i
+invariant-loop-i b behind n₀ i₀ n i =
     (i ≤ length b) × (n ≤ i) × (n + endings (drop i (zip b behind)) ≡ endings (zip b behind))
 
-abbrev decreases-loop : tie.decreases-loop
-decreases-loop b behind n₀ i₀ n i = length b - i
+abbrev decreases-loop-i : tie.decreases-loop-i
+decreases-loop-i b behind n₀ i₀ n i = length b - i
 
-loop-holds : tie.Need-loop-init invariant-loop decreases-loop
-loop-holds c = (omega arith, omega arith, omega arith)
+loop-i-init : tie.Need-loop-i-init invariant-loop-i decreases-loop-i
+loop-i-init c = (omega arith, omega arith, omega arith)
 
-shared-slice-read-closes-line : tie.Need-shared-slice-read-closes-line invariant-loop decreases-loop
-shared-slice-read-closes-line c = omega arith
+bounds-b-i : tie.Need-bounds-b-i invariant-loop-i decreases-loop-i
+bounds-b-i c = omega arith
 
-shared-slice-read-closes-line-2 : tie.Need-shared-slice-read-closes-line-2 invariant-loop decreases-loop
-shared-slice-read-closes-line-2 c = omega arith
+bounds-behind-i : tie.Need-bounds-behind-i invariant-loop-i decreases-loop-i
+bounds-behind-i c = omega arith
 
-closes-line-requires : tie.Need-closes-line-requires invariant-loop decreases-loop
-closes-line-requires c κs = tt
+closes_line-requires : tie.Need-closes_line-requires invariant-loop-i decreases-loop-i
+closes_line-requires c κs = tt
 
 -- the two texts
-module _ (c : tie.At-loop invariant-loop decreases-loop) where
-  abbrev start : tie.Start invariant-loop decreases-loop
+module _ (c : tie.At-loop-i invariant-loop-i decreases-loop-i) where
+  abbrev start : tie.Start invariant-loop-i decreases-loop-i
   start = c.before.before.before
 
   abbrev b : List ℕ
@@ -45,61 +45,47 @@ module _ (c : tie.At-loop invariant-loop decreases-loop) where
   behind = start.args.behind.now
 
 -- the octet that is looked at, with the one behind it
-module _ (c : tie.Joined1 invariant-loop decreases-loop) where
-  abbrev turn : tie.At-loop invariant-loop decreases-loop
+module _ (c : tie.Joined-closes_line invariant-loop-i decreases-loop-i) where
+  abbrev turn : tie.At-loop-i invariant-loop-i decreases-loop-i
   turn = c.before.before.before.before.before
 
   abbrev closing : Bool
-  closing = closes (get_or (b turn) turn.loop.i 0) (is "\n" (get_or (behind turn) turn.loop.i 0))
+  closing = closes (get_or (b turn) turn.loop-i.i 0) (is "\n" (get_or (behind turn) turn.loop-i.i 0))
 
-  closed-here : c.if1.ends ≡ one_if closing
+  closed-here : c.if-closes_line.ends ≡ one_if closing
   closed-here =
-      let told = sym c.before.closes-line.ensures in
-      ⊎_elim (λ v. v.1 ∙ sym (ap one_if (told ∙ v.0.taken))) (λ v. v.1 ∙ sym (ap one_if (told ∙ v.0.left))) c.if1.branch
+      let told = sym c.before.closes_line.ensures in
+      ⊎_elim (λ v. v.1 ∙ sym (ap one_if (told ∙ v.0.taken))) (λ v. v.1 ∙ sym (ap one_if (told ∙ v.0.left))) c.if-closes_line.branch
 
-  few : c.if1.ends ≤ 1
-  few = ⊎_elim (λ v. omega (arith, v.1)) (λ v. omega (arith, v.1)) c.if1.branch
+  few : c.if-closes_line.ends ≤ 1
+  few = ⊎_elim (λ v. omega (arith, v.1)) (λ v. omega (arith, v.1)) c.if-closes_line.branch
 
-add-n : tie.Need-overflow-add-n invariant-loop decreases-loop
-add-n c = omega (arith, few c.before, (turn c.before).loop.inv.1)
+overflow_add-n : tie.Need-overflow_add-n invariant-loop-i decreases-loop-i
+overflow_add-n c = omega (arith, few c.before, (turn c.before).loop-i.invariant.1)
 
-add-i : tie.Need-overflow-add-i invariant-loop decreases-loop
-add-i c = omega arith
+overflow_add-i : tie.Need-overflow_add-i invariant-loop-i decreases-loop-i
+overflow_add-i c = omega arith
 
-loop-less : tie.Need-loop-smaller invariant-loop decreases-loop
-loop-less c = omega arith
+loop-i-smaller : tie.Need-loop-i-smaller invariant-loop-i decreases-loop-i
+loop-i-smaller c = omega arith
 
-loop-again : tie.Need-loop-preserved invariant-loop decreases-loop
-loop-again c =
+loop-i-preserved : tie.Need-loop-i-preserved invariant-loop-i decreases-loop-i
+loop-i-preserved c =
     let j = c.before in
     let t = turn j in (
       omega arith,
-      omega (arith, few j, t.loop.inv.1),
-      omega (arith, closed-here j, t.loop.inv.2, endings_next (b t) (behind t) t.loop.i (omega arith) (omega arith)),
+      omega (arith, few j, t.loop-i.invariant.1),
+      omega (arith, closed-here j, t.loop-i.invariant.2, endings_next (b t) (behind t) t.loop-i.i (omega arith) (omega arith)),
     )
 
-cast-result : tie.Need-overflow-cast-result invariant-loop decreases-loop
-cast-result c = omega (arith, c.before.loop.invariant.1)
+overflow_cast-result : tie.Need-overflow_cast-result invariant-loop-i decreases-loop-i
+overflow_cast-result c = omega (arith, c.before.loop-i.invariant.1)
 
-returns : tie.Need-returns invariant-loop decreases-loop
+returns : tie.Need-returns invariant-loop-i decreases-loop-i
 returns c =
     let t = c.before in
     let l = zip (b t) (behind t) in
-    omega (arith, t.loop.invariant.2, endings_end l t.loop.i (omega (arith, zip_length (b t) (behind t))))
+    omega (arith, t.loop-i.invariant.2, endings_end l t.loop-i.i (omega (arith, zip_length (b t) (behind t))))
 
-pub few-endings-spec : {M : Type 1} → statement M
-few-endings-spec =
-    tie.close
-    (tie.spec
-    invariant-loop
-    decreases-loop
-    loop-holds
-    shared-slice-read-closes-line
-    shared-slice-read-closes-line-2
-    closes-line-requires
-    add-n
-    add-i
-    loop-less
-    loop-again
-    cast-result
-    returns)
+pub few_endings_spec : {M : Type 1} → statement M
+few_endings_spec = tie.close (tie.spec invariant-loop-i decreases-loop-i loop-i-init bounds-b-i bounds-behind-i closes_line-requires overflow_add-n overflow_add-i loop-i-smaller loop-i-preserved overflow_cast-result returns)

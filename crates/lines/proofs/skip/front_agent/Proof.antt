@@ -13,77 +13,62 @@ use Rattle.lines.proofs.Skips.{front_here, front_on}
 use Rattle.lines.proofs.skip.front_agent.Statement.{statement}
 use Rattle.lines.proofs.skip.front_agent.Tie as tie
 
-abbrev invariant-loop : tie.invariant-loop
-invariant-loop b behind first₀ i₀ first i =
+abbrev invariant-loop-i : tie.invariant-loop-i
+invariant-loop-i b behind first₀ i₀ first i =
     (i ≤ 64) × (first ≤ 64) × (min first (i + agent_front (drop i (zip b behind))) ≡ agent_front (zip b behind))
 
-abbrev decreases-loop : tie.decreases-loop
-decreases-loop b behind first₀ i₀ first i = 64 - i
+abbrev decreases-loop-i : tie.decreases-loop-i
+decreases-loop-i b behind first₀ i₀ first i = 64 - i
 
-loop-holds : tie.Need-loop-init invariant-loop decreases-loop
-loop-holds c =
+loop-i-init : tie.Need-loop-i-init invariant-loop-i decreases-loop-i
+loop-i-init c =
     let a = c.before.before.args in
     let pairs = zip a.b.now a.behind.now in
     omega (arith, c.before.before.requires, up_to_fits (opens agent_octet) pairs, zip_length a.b.now a.behind.now)
 
-cast-at : tie.Need-overflow-cast-at invariant-loop decreases-loop
-cast-at c = omega arith
+overflow_cast-at : tie.Need-overflow_cast-at invariant-loop-i decreases-loop-i
+overflow_cast-at c = omega arith
 
-shared-slice-read-ends-line : tie.Need-shared-slice-read-ends-line invariant-loop decreases-loop
-shared-slice-read-ends-line c = omega arith
+bounds-b-at : tie.Need-bounds-b-at invariant-loop-i decreases-loop-i
+bounds-b-at c = omega arith
 
-ends-line-requires : tie.Need-ends-line-requires invariant-loop decreases-loop
-ends-line-requires c κs = tt
+ends_line-requires : tie.Need-ends_line-requires invariant-loop-i decreases-loop-i
+ends_line-requires c κs = tt
 
-shared-slice-read-may-begin : tie.Need-shared-slice-read-may-begin invariant-loop decreases-loop
-shared-slice-read-may-begin c = omega arith
+bounds-behind-at : tie.Need-bounds-behind-at invariant-loop-i decreases-loop-i
+bounds-behind-at c = omega arith
 
-may-begin-requires : tie.Need-may-begin-requires invariant-loop decreases-loop
-may-begin-requires c κs = tt
+may_begin-requires : tie.Need-may_begin-requires invariant-loop-i decreases-loop-i
+may_begin-requires c κs = tt
 
-add-i : tie.Need-overflow-add-i invariant-loop decreases-loop
-add-i c = omega arith
+overflow_add-i : tie.Need-overflow_add-i invariant-loop-i decreases-loop-i
+overflow_add-i c = omega arith
 
-loop-less : tie.Need-loop-smaller invariant-loop decreases-loop
-loop-less c = omega arith
+loop-i-smaller : tie.Need-loop-i-smaller invariant-loop-i decreases-loop-i
+loop-i-smaller c = omega arith
 
-loop-again : tie.Need-loop-preserved invariant-loop decreases-loop
-loop-again c =
+loop-i-preserved : tie.Need-loop-i-preserved invariant-loop-i decreases-loop-i
+loop-i-preserved c =
     let m = c.before.before in
     let e = m.before.before in
     let l = e.before.before.before in
     let a = l.before.before.before.args in
-    let told = sym (ap₂ ◌&&◌ e.ends-line.ensures m.may-begin.ensures) in
-    let next = zip_next a.b.now a.behind.now l.loop.i (omega arith) (omega arith) in
+    let told = sym (ap₂ ◌&&◌ e.ends_line.ensures m.may_begin.ensures) in
+    let next = zip_next a.b.now a.behind.now l.loop-i.i (omega arith) (omega arith) in
     ⊎_elim
     (λ v.
     let here = front_here next (told ∙ v.0.taken) in
-    ⊎_elim (λ w. omega (arith, here, l.loop.invariant.2)) (λ w. omega (arith, here, l.loop.invariant.2)) c.if2.branch)
+    ⊎_elim (λ w. omega (arith, here, l.loop-i.invariant.2)) (λ w. omega (arith, here, l.loop-i.invariant.2)) c.if-here-first.branch)
     (λ v.
     let on = front_on next (told ∙ v.0.left) in
-    ⊎_elim (λ w. omega (arith, on, l.loop.invariant.2)) (λ w. omega (arith, on, l.loop.invariant.2)) c.if2.branch)
-    c.before.if1.branch
+    ⊎_elim (λ w. omega (arith, on, l.loop-i.invariant.2)) (λ w. omega (arith, on, l.loop-i.invariant.2)) c.if-here-first.branch)
+    c.before.if-ends_line-may_begin.branch
 
-cast-result : tie.Need-overflow-cast-result invariant-loop decreases-loop
-cast-result c = omega arith
+overflow_cast-result : tie.Need-overflow_cast-result invariant-loop-i decreases-loop-i
+overflow_cast-result c = omega arith
 
-returns : tie.Need-returns invariant-loop decreases-loop
-returns c = omega (arith, c.before.loop.invariant.2)
+returns : tie.Need-returns invariant-loop-i decreases-loop-i
+returns c = omega (arith, c.before.loop-i.invariant.2)
 
-pub front-agent-spec : {M : Type 1} → statement M
-front-agent-spec =
-    tie.close
-    (tie.spec
-    invariant-loop
-    decreases-loop
-    loop-holds
-    cast-at
-    shared-slice-read-ends-line
-    ends-line-requires
-    shared-slice-read-may-begin
-    may-begin-requires
-    add-i
-    loop-less
-    loop-again
-    cast-result
-    returns)
+pub front_agent_spec : {M : Type 1} → statement M
+front_agent_spec = tie.close (tie.spec invariant-loop-i decreases-loop-i loop-i-init overflow_cast-at bounds-b-at ends_line-requires bounds-behind-at may_begin-requires overflow_add-i loop-i-smaller loop-i-preserved overflow_cast-result returns)

@@ -18,35 +18,35 @@ use Rattle.lines.proofs.Skips.{opens_next, endings_next, endings_end}
 use Rattle.lines.proofs.skip.glance.Statement.{statement}
 use Rattle.lines.proofs.skip.glance.Tie as tie
 
-abbrev invariant-loop : tie.invariant-loop
-invariant-loop b behind found₀ n₀ i₀ found n i =
+abbrev invariant-loop-i : tie.invariant-loop-i
+invariant-loop-i b behind found₀ n₀ i₀ found n i =
     let l = zip b behind in
     (i ≤ 64) × (n ≤ i) × (n + endings (drop i l) ≡ endings l) × (t : Bool) × (found ≡ one_if t) × ((t || any (opens entry_octet) (drop i l)) ≡ any (opens entry_octet) l)
 
-abbrev decreases-loop : tie.decreases-loop
-decreases-loop b behind found₀ n₀ i₀ found n i = 64 - i
+abbrev decreases-loop-i : tie.decreases-loop-i
+decreases-loop-i b behind found₀ n₀ i₀ found n i = 64 - i
 
-loop-holds : tie.Need-loop-init invariant-loop decreases-loop
-loop-holds c = (omega arith, omega arith, omega arith, false, refl, refl)
+loop-i-init : tie.Need-loop-i-init invariant-loop-i decreases-loop-i
+loop-i-init c = (omega arith, omega arith, omega arith, false, refl, refl)
 
-shared-slice-read-x : tie.Need-shared-slice-read-x invariant-loop decreases-loop
-shared-slice-read-x c = omega arith
+bounds-b-i : tie.Need-bounds-b-i invariant-loop-i decreases-loop-i
+bounds-b-i c = omega arith
 
-shared-slice-read-y : tie.Need-shared-slice-read-y invariant-loop decreases-loop
-shared-slice-read-y c = omega arith
+bounds-behind-i : tie.Need-bounds-behind-i invariant-loop-i decreases-loop-i
+bounds-behind-i c = omega arith
 
-ends-line-requires : tie.Need-ends-line-requires invariant-loop decreases-loop
-ends-line-requires c κs = tt
+ends_line-requires : tie.Need-ends_line-requires invariant-loop-i decreases-loop-i
+ends_line-requires c κs = tt
 
-may-begin-entry-requires : tie.Need-may-begin-entry-requires invariant-loop decreases-loop
-may-begin-entry-requires c κs = tt
+may_begin_entry-requires : tie.Need-may_begin_entry-requires invariant-loop-i decreases-loop-i
+may_begin_entry-requires c κs = tt
 
-closes-line-requires : tie.Need-closes-line-requires invariant-loop decreases-loop
-closes-line-requires c κs = tt
+closes_line-requires : tie.Need-closes_line-requires invariant-loop-i decreases-loop-i
+closes_line-requires c κs = tt
 
 -- the octet that is looked at, with the one behind it
-module _ (c : tie.At-loop invariant-loop decreases-loop) where
-  abbrev start : tie.Start invariant-loop decreases-loop
+module _ (c : tie.At-loop-i invariant-loop-i decreases-loop-i) where
+  abbrev start : tie.Start invariant-loop-i decreases-loop-i
   start = c.before.before.before
 
   abbrev b : List ℕ
@@ -56,38 +56,38 @@ module _ (c : tie.At-loop invariant-loop decreases-loop) where
   behind = start.args.behind.now
 
   abbrev octets : ℕ × ℕ
-  octets = (get_or b c.loop.i 0, get_or behind c.loop.i 0)
+  octets = (get_or b c.loop-i.i 0, get_or behind c.loop-i.i 0)
 
   abbrev closing : Bool
   closing = closes octets.0 (is "\n" octets.1)
 
 -- what is found there
-found_here : (c : tie.Joined1 invariant-loop decreases-loop) → c.if1.here ≡ one_if (opens entry_octet (octets c.before.before.before.before.before.before))
+found_here : (c : tie.Joined-ends_line-may_begin_entry invariant-loop-i decreases-loop-i) → c.if-ends_line-may_begin_entry.here ≡ one_if (opens entry_octet (octets c.before.before.before.before.before.before))
 found_here c =
     let m = c.before in
-    let told = sym (ap₂ ◌&&◌ m.before.ends-line.ensures m.may-begin-entry.ensures) in
-    ⊎_elim (λ v. v.1 ∙ sym (ap one_if (told ∙ v.0.taken))) (λ v. v.1 ∙ sym (ap one_if (told ∙ v.0.left))) c.if1.branch
+    let told = sym (ap₂ ◌&&◌ m.before.ends_line.ensures m.may_begin_entry.ensures) in
+    ⊎_elim (λ v. v.1 ∙ sym (ap one_if (told ∙ v.0.taken))) (λ v. v.1 ∙ sym (ap one_if (told ∙ v.0.left))) c.if-ends_line-may_begin_entry.branch
 
-module _ (c : tie.Joined2 invariant-loop decreases-loop) where
-  abbrev turn : tie.At-loop invariant-loop decreases-loop
+module _ (c : tie.Joined-closes_line invariant-loop-i decreases-loop-i) where
+  abbrev turn : tie.At-loop-i invariant-loop-i decreases-loop-i
   turn = c.before.before.before.before.before.before.before.before.before
 
-  closed-here : c.if2.ends ≡ one_if (closing turn)
+  closed-here : c.if-closes_line.ends ≡ one_if (closing turn)
   closed-here =
-      let told = sym c.before.closes-line.ensures in
-      ⊎_elim (λ v. v.1 ∙ sym (ap one_if (told ∙ v.0.taken))) (λ v. v.1 ∙ sym (ap one_if (told ∙ v.0.left))) c.if2.branch
+      let told = sym c.before.closes_line.ensures in
+      ⊎_elim (λ v. v.1 ∙ sym (ap one_if (told ∙ v.0.taken))) (λ v. v.1 ∙ sym (ap one_if (told ∙ v.0.left))) c.if-closes_line.branch
 
-  few : c.if2.ends ≤ 1
-  few = ⊎_elim (λ v. omega (arith, v.1)) (λ v. omega (arith, v.1)) c.if2.branch
+  few : c.if-closes_line.ends ≤ 1
+  few = ⊎_elim (λ v. omega (arith, v.1)) (λ v. omega (arith, v.1)) c.if-closes_line.branch
 
-add-n : tie.Need-overflow-add-n invariant-loop decreases-loop
-add-n c = omega (arith, few c.before, (turn c.before).loop.inv.1)
+overflow_add-n : tie.Need-overflow_add-n invariant-loop-i decreases-loop-i
+overflow_add-n c = omega (arith, few c.before, (turn c.before).loop-i.invariant.1)
 
-add-i : tie.Need-overflow-add-i invariant-loop decreases-loop
-add-i c = omega arith
+overflow_add-i : tie.Need-overflow_add-i invariant-loop-i decreases-loop-i
+overflow_add-i c = omega arith
 
-loop-less : tie.Need-loop-smaller invariant-loop decreases-loop
-loop-less c = omega arith
+loop-i-smaller : tie.Need-loop-i-smaller invariant-loop-i decreases-loop-i
+loop-i-smaller c = omega arith
 
 either : (x y : Bool) → bit_or (one_if x) (one_if y) ≡ one_if (x || y)
 either true true = refl
@@ -95,12 +95,12 @@ either true false = refl
 either false true = refl
 either false false = refl
 
-loop-again : tie.Need-loop-preserved invariant-loop decreases-loop
-loop-again c =
+loop-i-preserved : tie.Need-loop-i-preserved invariant-loop-i decreases-loop-i
+loop-i-preserved c =
     let j = c.before in
     let t = turn j in
-    let inv = t.loop.inv in
-    let i = t.loop.i in
+    let inv = t.loop-i.invariant in
+    let i = t.loop-i.i in
     let rest : Bool = any (opens entry_octet) (drop (i + 1) (zip (b t) (behind t))) in (
       omega arith,
       omega (arith, few j, inv.1),
@@ -112,39 +112,23 @@ loop-again c =
           ∙ inv.5,
     )
 
-cast-t20 : tie.Need-overflow-cast-t20 invariant-loop decreases-loop
-cast-t20 c = omega (arith, c.before.loop.invariant.1)
+overflow_cast-result : tie.Need-overflow_cast-result invariant-loop-i decreases-loop-i
+overflow_cast-result c = omega (arith, c.before.loop-i.invariant.1)
 
 none_found : (x : Bool) → eqb (one_if x) 0 ≡ not x
 none_found true = refl
 none_found false = refl
 
-returns : tie.Need-returns invariant-loop decreases-loop
+returns : tie.Need-returns invariant-loop-i decreases-loop-i
 returns c =
     let t = c.before in
-    let inv = t.loop.invariant in
+    let inv = t.loop-i.invariant in
     let l = zip (b t) (behind t) in
-    let all : length l ≤ t.loop.i = omega (arith, zip_length (b t) (behind t)) in
-    let none = rw (any_end (opens entry_octet) l t.loop.i all) at inv.5 in
+    let all : length l ≤ t.loop-i.i = omega (arith, zip_length (b t) (behind t)) in
+    let none = rw (any_end (opens entry_octet) l t.loop-i.i all) at inv.5 in
     ap₂ (λ (q : Bool) (n : ℕ). record { quiet = q; lines = n })
     (ap (λ (x : ℕ). eqb x 0) inv.4 ∙ none_found inv.3 ∙ ap not (sym (or-false inv.3) ∙ none))
-    (omega (arith, inv.2, endings_end l t.loop.i all))
+    (omega (arith, inv.2, endings_end l t.loop-i.i all))
 
-pub glance-spec : {M : Type 1} → statement M
-glance-spec =
-    tie.close
-    (tie.spec
-    invariant-loop
-    decreases-loop
-    loop-holds
-    shared-slice-read-x
-    shared-slice-read-y
-    ends-line-requires
-    may-begin-entry-requires
-    closes-line-requires
-    add-n
-    add-i
-    loop-less
-    loop-again
-    cast-t20
-    returns)
+pub glance_spec : {M : Type 1} → statement M
+glance_spec = tie.close (tie.spec invariant-loop-i decreases-loop-i loop-i-init bounds-b-i bounds-behind-i ends_line-requires may_begin_entry-requires closes_line-requires overflow_add-n overflow_add-i loop-i-smaller loop-i-preserved overflow_cast-result returns)

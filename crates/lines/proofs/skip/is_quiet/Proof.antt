@@ -13,66 +13,53 @@ use Rattle.lines.proofs.Skips.{opens_next}
 use Rattle.lines.proofs.skip.is_quiet.Statement.{statement}
 use Rattle.lines.proofs.skip.is_quiet.Tie as tie
 
-abbrev invariant-loop : tie.invariant-loop
-invariant-loop b behind found₀ i₀ found i =
+abbrev invariant-loop-i : tie.invariant-loop-i
+invariant-loop-i b behind found₀ i₀ found i =
     (i ≤ length b) × ((found || any (opens agent_octet) (drop i (zip b behind))) ≡ any (opens agent_octet) (zip b behind))
 
-abbrev decreases-loop : tie.decreases-loop
-decreases-loop b behind found₀ i₀ found i = length b - i
+abbrev decreases-loop-i : tie.decreases-loop-i
+decreases-loop-i b behind found₀ i₀ found i = length b - i
 
-loop-holds : tie.Need-loop-init invariant-loop decreases-loop
-loop-holds c = (omega arith, refl)
+loop-i-init : tie.Need-loop-i-init invariant-loop-i decreases-loop-i
+loop-i-init c = (omega arith, refl)
 
-shared-slice-read-ends-line : tie.Need-shared-slice-read-ends-line invariant-loop decreases-loop
-shared-slice-read-ends-line c = omega arith
+bounds-b-i : tie.Need-bounds-b-i invariant-loop-i decreases-loop-i
+bounds-b-i c = omega arith
 
-ends-line-requires : tie.Need-ends-line-requires invariant-loop decreases-loop
-ends-line-requires c κs = tt
+ends_line-requires : tie.Need-ends_line-requires invariant-loop-i decreases-loop-i
+ends_line-requires c κs = tt
 
-shared-slice-read-may-begin : tie.Need-shared-slice-read-may-begin invariant-loop decreases-loop
-shared-slice-read-may-begin c = omega arith
+bounds-behind-i : tie.Need-bounds-behind-i invariant-loop-i decreases-loop-i
+bounds-behind-i c = omega arith
 
-may-begin-requires : tie.Need-may-begin-requires invariant-loop decreases-loop
-may-begin-requires c κs = tt
+may_begin-requires : tie.Need-may_begin-requires invariant-loop-i decreases-loop-i
+may_begin-requires c κs = tt
 
-add-i : tie.Need-overflow-add-i invariant-loop decreases-loop
-add-i c = omega arith
+overflow_add-i : tie.Need-overflow_add-i invariant-loop-i decreases-loop-i
+overflow_add-i c = omega arith
 
-loop-less : tie.Need-loop-smaller invariant-loop decreases-loop
-loop-less c = omega arith
+loop-i-smaller : tie.Need-loop-i-smaller invariant-loop-i decreases-loop-i
+loop-i-smaller c = omega arith
 
-loop-again : tie.Need-loop-preserved invariant-loop decreases-loop
-loop-again c =
+loop-i-preserved : tie.Need-loop-i-preserved invariant-loop-i decreases-loop-i
+loop-i-preserved c =
     let e = c.before.before in
     let l = e.before.before.before in
     let a = l.before.before.before.args in
-    let rest : Bool = any (opens agent_octet) (drop (l.loop.i + 1) (zip a.b.now a.behind.now)) in
-    let next = opens_next a.b.now a.behind.now l.loop.i (omega arith) (omega arith) agent_octet in (
+    let rest : Bool = any (opens agent_octet) (drop (l.loop-i.i + 1) (zip a.b.now a.behind.now)) in
+    let next = opens_next a.b.now a.behind.now l.loop-i.i (omega arith) (omega arith) agent_octet in (
       omega arith,
-      or_assoc l.loop.found (e.ends-line.result && c.may-begin.result) rest
-          ∙ ap (λ (x : Bool). l.loop.found || x) (ap (λ (x : Bool). x || rest) (ap₂ ◌&&◌ e.ends-line.ensures c.may-begin.ensures) ∙ sym next)
-          ∙ l.loop.invariant.1,
+      or_assoc l.loop-i.found (e.ends_line.result && c.may_begin.result) rest
+          ∙ ap (λ (x : Bool). l.loop-i.found || x) (ap (λ (x : Bool). x || rest) (ap₂ ◌&&◌ e.ends_line.ensures c.may_begin.ensures) ∙ sym next)
+          ∙ l.loop-i.invariant.1,
     )
 
-returns : tie.Need-returns invariant-loop decreases-loop
+returns : tie.Need-returns invariant-loop-i decreases-loop-i
 returns c =
     let l = c.before in
     let a = l.before.before.before.args in
-    let all = any_end (opens agent_octet) (zip a.b.now a.behind.now) l.loop.i (rw zip_length (omega arith)) in
-    ap not (sym (or-false l.loop.found) ∙ rw all at l.loop.invariant.1)
+    let all = any_end (opens agent_octet) (zip a.b.now a.behind.now) l.loop-i.i (rw zip_length (omega arith)) in
+    ap not (sym (or-false l.loop-i.found) ∙ rw all at l.loop-i.invariant.1)
 
-pub is-quiet-spec : {M : Type 1} → statement M
-is-quiet-spec =
-    tie.close
-    (tie.spec
-    invariant-loop
-    decreases-loop
-    loop-holds
-    shared-slice-read-ends-line
-    ends-line-requires
-    shared-slice-read-may-begin
-    may-begin-requires
-    add-i
-    loop-less
-    loop-again
-    returns)
+pub is_quiet_spec : {M : Type 1} → statement M
+is_quiet_spec = tie.close (tie.spec invariant-loop-i decreases-loop-i loop-i-init bounds-b-i ends_line-requires bounds-behind-i may_begin-requires overflow_add-i loop-i-smaller loop-i-preserved returns)

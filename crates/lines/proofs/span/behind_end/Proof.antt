@@ -12,20 +12,20 @@ use Rattle.lines.proofs.Endings.{ending_few, no_ending}
 use Rattle.lines.proofs.span.behind_end.Statement.{statement}
 use Rattle.lines.proofs.span.behind_end.Tie as tie
 
-returns : tie.Need-returns
-returns c = let a = c.before.before.args in no_ending a.file.now a.end (omega arith)
+returns-then-file-stop : tie.Need-returns-then-file-stop
+returns-then-file-stop c = let a = c.before.before.args in no_ending a.file.now a.end (omega arith)
 
-sub-ending-length : tie.Need-overflow-sub-ending-length
-sub-ending-length c = search rules
+slice_bounds-ending_length-count : tie.Need-slice_bounds-ending_length-count
+slice_bounds-ending_length-count c = search rules
 
-part-ending-length-start : tie.Need-slice-bounds-ending-length-start
-part-ending-length-start c = search rules
+slice_bounds-ending_length-start : tie.Need-slice_bounds-ending_length-start
+slice_bounds-ending_length-start c = search rules
 
-part-ending-length-end : tie.Need-slice-bounds-ending-length-end
-part-ending-length-end c = search rules
+slice_bounds-ending_length-end : tie.Need-slice_bounds-ending_length-end
+slice_bounds-ending_length-end c = search rules
 
 -- an ending stands there
-module _ (c : tie.Else1) where
+module _ (c : tie.Else-file-stop) where
   abbrev given : tie.Start
   given = c.before.before
 
@@ -35,32 +35,23 @@ module _ (c : tie.Else1) where
   abbrev end : Place
   end = given.args.end
 
-ending-length-requires : tie.Need-ending-length-requires
-ending-length-requires c κs =
+ending_length-requires : tie.Need-ending_length-requires
+ending_length-requires c κs =
     let e = c.before in
     rw (rest_of (end e).offset (file e)) (simp length-drop (omega arith), (given e).requires (omega arith))
 
-module _ (c : tie.After-ending-length) where
-  abbrev other : tie.Else1
+module _ (c : tie.After-ending_length) where
+  abbrev other : tie.Else-file-stop
   other = c.before.before
 
-  size : c.ending-length.result ≡ ending_length (drop (end other).offset (file other))
-  size = c.ending-length.ensures ∙ ap ending_length (rest_of (end other).offset (file other))
+  size : c.ending_length.result ≡ ending_length (drop (end other).offset (file other))
+  size = c.ending_length.ensures ∙ ap ending_length (rest_of (end other).offset (file other))
 
-add-next : tie.Need-overflow-add-next
-add-next c = let e = other c in omega (arith, size c, ending_few (drop (end e).offset (file e)))
+overflow_add-next : tie.Need-overflow_add-next
+overflow_add-next c = let e = other c in omega (arith, size c, ending_few (drop (end e).offset (file e)))
 
-returns-2 : tie.Need-returns-2
-returns-2 c = ap (place_after (end (other c))) (size c)
+returns : tie.Need-returns
+returns c = ap (place_after (end (other c))) (size c)
 
-pub behind-end-spec : {M : Type 1} → statement M
-behind-end-spec =
-    tie.close
-    (tie.spec
-    returns
-    sub-ending-length
-    part-ending-length-start
-    part-ending-length-end
-    ending-length-requires
-    add-next
-    returns-2)
+pub behind_end_spec : {M : Type 1} → statement M
+behind_end_spec = tie.close (tie.spec returns-then-file-stop slice_bounds-ending_length-count slice_bounds-ending_length-start slice_bounds-ending_length-end ending_length-requires overflow_add-next returns)

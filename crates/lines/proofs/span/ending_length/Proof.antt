@@ -7,33 +7,31 @@ use Rattle.lines.proofs.Endings.{last_ending, two_ending, one_ending}
 use Rattle.lines.proofs.span.ending_length.Statement.{statement}
 use Rattle.lines.proofs.span.ending_length.Tie as tie
 
-returns : tie.Need-returns
-returns c = let s = c.before.before in sym (last_ending s.args.s.now (omega arith) s.requires.1)
+returns-then-s-eq1 : tie.Need-returns-then-s-eq1
+returns-then-s-eq1 c = let s = c.before.before in sym (last_ending s.args.s.now (omega arith) s.requires.1)
 
-shared-slice-read-is-cr-lf : tie.Need-shared-slice-read-is-cr-lf
-shared-slice-read-is-cr-lf c = omega arith
+bounds-s-0 : tie.Need-bounds-s-0
+bounds-s-0 c = omega arith
 
-shared-slice-read-is-cr-lf-2 : tie.Need-shared-slice-read-is-cr-lf-2
-shared-slice-read-is-cr-lf-2 c = omega arith
+bounds-s-1 : tie.Need-bounds-s-1
+bounds-s-1 c = omega arith
 
-is-cr-lf-requires : tie.Need-is-cr-lf-requires
-is-cr-lf-requires c κs = tt
+is_cr_lf-requires : tie.Need-is_cr_lf-requires
+is_cr_lf-requires c κs = tt
 
 -- there are two octets
-module _ (c : tie.After-is-cr-lf) where
+module _ (c : tie.After-is_cr_lf) where
   abbrev start : tie.Start
   start = c.before.before.before.before.before
 
   abbrev text : List ℕ
   text = start.args.s.now
 
-returns-2 : tie.Need-returns-2
-returns-2 c = let e = c.before in sym (two_ending (text e) (omega arith) (sym e.is-cr-lf.ensures ∙ c.if2.true))
+returns-then-is_cr_lf : tie.Need-returns-then-is_cr_lf
+returns-then-is_cr_lf c = let e = c.before in sym (two_ending (text e) (omega arith) (sym e.is_cr_lf.ensures ∙ c.if-is_cr_lf.true))
 
-returns-3 : tie.Need-returns-3
-returns-3 c = let e = c.before in sym (one_ending (text e) (omega arith) (start e).requires.1 (sym e.is-cr-lf.ensures ∙ c.if2.false))
+returns : tie.Need-returns
+returns c = let e = c.before in sym (one_ending (text e) (omega arith) (start e).requires.1 (sym e.is_cr_lf.ensures ∙ c.if-is_cr_lf.false))
 
-pub ending-length-spec : {M : Type 1} → statement M
-ending-length-spec =
-    tie.close
-    (tie.spec returns shared-slice-read-is-cr-lf shared-slice-read-is-cr-lf-2 is-cr-lf-requires returns-2 returns-3)
+pub ending_length_spec : {M : Type 1} → statement M
+ending_length_spec = tie.close (tie.spec returns-then-s-eq1 bounds-s-0 bounds-s-1 is_cr_lf-requires returns-then-is_cr_lf returns)

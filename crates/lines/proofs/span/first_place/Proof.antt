@@ -3,14 +3,14 @@ use mathlib.Core.Path.{sym, ◌∙◌}
 use Rattle.lines.proofs.span.first_place.Statement.{statement}
 use Rattle.lines.proofs.span.first_place.Tie as tie
 
-has-leading-mark-requires : tie.Need-has-leading-mark-requires
-has-leading-mark-requires c κs = tt
+has_leading_mark-requires : tie.Need-has_leading_mark-requires
+has_leading_mark-requires c κs = tt
 
-returns : tie.Need-returns
-returns c = rw (sym c.before.has-leading-mark.ensures ∙ c.if1.true)
+returns-then-has_leading_mark : tie.Need-returns-then-has_leading_mark
+returns-then-has_leading_mark c = rw (sym c.before.has_leading_mark.ensures ∙ c.if-has_leading_mark.true)
 
-returns-2 : tie.Need-returns-2
-returns-2 c = rw (sym c.before.has-leading-mark.ensures ∙ c.if1.false)
+returns-else-has_leading_mark : tie.Need-returns-else-has_leading_mark
+returns-else-has_leading_mark c = rw (sym c.before.has_leading_mark.ensures ∙ c.if-has_leading_mark.false)
 
-pub first-place-spec : {M : Type 1} → statement M
-first-place-spec = tie.close (tie.spec has-leading-mark-requires returns returns-2)
+pub first_place_spec : {M : Type 1} → statement M
+first_place_spec = tie.close (tie.spec has_leading_mark-requires returns-then-has_leading_mark returns-else-has_leading_mark)

@@ -3,11 +3,11 @@ use borrow.Author.Tests.{eq-eqb, ne_eqb}
 use Rattle.lines.proofs.span.is_cr_lf.Statement.{statement}
 use Rattle.lines.proofs.span.is_cr_lf.Tie as tie
 
+returns-then-c-ne13 : tie.Need-returns-then-c-ne13
+returns-then-c-ne13 c = rw (ne_eqb c.before.args.c 13 c.if-c-ne13.true)
+
 returns : tie.Need-returns
-returns c = rw (ne_eqb c.before.args.c 13 c.if1.true)
+returns c = rw (eq-eqb c.before.args.c 13 c.if-c-ne13.false)
 
-returns-2 : tie.Need-returns-2
-returns-2 c = rw (eq-eqb c.before.args.c 13 c.if1.false)
-
-pub is-cr-lf-spec : {M : Type 1} → statement M
-is-cr-lf-spec = tie.close (tie.spec returns returns-2)
+pub is_cr_lf_spec : {M : Type 1} → statement M
+is_cr_lf_spec = tie.close (tie.spec returns-then-c-ne13 returns)
