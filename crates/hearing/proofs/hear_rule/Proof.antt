@@ -3,11 +3,11 @@ use borrow.Author.Rules.{rules}
 use Rattle.hearing.proofs.hear_rule.Statement.{statement}
 use Rattle.hearing.proofs.hear_rule.Tie as tie
 
-unread-after-requires : tie.Need-unread-after-requires
-unread-after-requires c κs = search rules
+unread_after-unread-requires : tie.Need-unread_after-unread-requires
+unread_after-unread-requires c κs = search rules
 
 returns : tie.Need-returns
-returns c = rw c.unread-after.ensures
+returns c = rw c.unread_after-unread.ensures
 
-pub hear-rule-spec : {M : Type 1} → statement M
-hear-rule-spec = tie.close (tie.spec unread-after-requires returns)
+pub hear_rule_spec : {M : Type 1} → statement M
+hear_rule_spec = tie.close (tie.spec unread_after-unread-requires returns)

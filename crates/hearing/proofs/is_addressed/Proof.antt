@@ -5,39 +5,29 @@ use borrow.Author.Rules.{rules}
 use Rattle.hearing.proofs.is_addressed.Statement.{statement}
 use Rattle.hearing.proofs.is_addressed.Tie as tie
 
-enum_told : tie.Need-enum-told
-enum_told c = search rules
+enum_told-1 : tie.Need-enum_told-1
+enum_told-1 c = search rules
 
 names-requires : tie.Need-names-requires
 names-requires c κs = search rules
 
-enum-told-2 : tie.Need-enum-told-2
-enum-told-2 c = search rules
+enum_told-in-Everyone : tie.Need-enum_told-in-Everyone
+enum_told-in-Everyone c = search rules
 
-names-everyone-requires : tie.Need-names-everyone-requires
-names-everyone-requires c κs = search rules
+names_everyone-requires : tie.Need-names_everyone-requires
+names_everyone-requires c κs = search rules
 
-enum-told-3 : tie.Need-enum-told-3
-enum-told-3 c = search rules
+enum_told-in-Nobody : tie.Need-enum_told-in-Nobody
+enum_told-in-Nobody c = search rules
 
-returns : tie.Need-returns
-returns c = rw c.before.enum_told.given.1 c.names.ensures
+returns-in-Crawler : tie.Need-returns-in-Crawler
+returns-in-Crawler c = rw c.before.in-Crawler.is c.names.ensures
 
-returns-2 : tie.Need-returns-2
-returns-2 c = rw c.before.enum-told2.given.1 c.names-everyone.ensures
+returns-in-Everyone : tie.Need-returns-in-Everyone
+returns-in-Everyone c = rw c.before.in-Everyone.is c.names_everyone.ensures
 
-returns-3 : tie.Need-returns-3
-returns-3 c = rw c.enum-told3.given.1 (sym (names_nobody c.before.before.before.before.args.value.now))
+returns-in-Nobody : tie.Need-returns-in-Nobody
+returns-in-Nobody c = rw c.in-Nobody.is (sym (names_nobody c.before.before.before.args.value.now))
 
-pub is-addressed-spec : {M : Type 1} → statement M
-is-addressed-spec =
-    tie.close
-    (tie.spec
-    enum_told
-    names-requires
-    enum-told-2
-    names-everyone-requires
-    enum-told-3
-    returns
-    returns-2
-    returns-3)
+pub is_addressed_spec : {M : Type 1} → statement M
+is_addressed_spec = tie.close (tie.spec enum_told-1 names-requires enum_told-in-Everyone names_everyone-requires enum_told-in-Nobody returns-in-Crawler returns-in-Everyone returns-in-Nobody)

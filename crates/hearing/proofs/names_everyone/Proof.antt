@@ -4,8 +4,8 @@ use borrow.Author.Rules.{rules}
 use Rattle.hearing.proofs.names_everyone.Statement.{statement}
 use Rattle.hearing.proofs.names_everyone.Tie as tie
 
-slice-aggregate-names : tie.Need-slice-aggregate-names
-slice-aggregate-names c = search rules
+slice_bounds-names-end : tie.Need-slice_bounds-names-end
+slice_bounds-names-end c = search rules
 
 names-requires : tie.Need-names-requires
 names-requires c κs = search rules
@@ -14,5 +14,5 @@ returns : tie.Need-returns
 unfolding octets
 returns c = c.names.ensures
 
-pub names-everyone-spec : {M : Type 1} → statement M
-names-everyone-spec = tie.close (tie.spec slice-aggregate-names names-requires returns)
+pub names_everyone_spec : {M : Type 1} → statement M
+names_everyone_spec = tie.close (tie.spec slice_bounds-names-end names-requires returns)

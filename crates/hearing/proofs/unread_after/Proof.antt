@@ -4,14 +4,14 @@ use borrow.Author.Rules.{rules}
 use Rattle.hearing.proofs.unread_after.Statement.{statement}
 use Rattle.hearing.proofs.unread_after.Tie as tie
 
-add-result : tie.Need-overflow-add-result
-add-result c = search rules
+overflow_add-result : tie.Need-overflow_add-result
+overflow_add-result c = search rules
 
-returns : tie.Need-returns
-returns c = rw c.if1.true
+returns-then-unreadable : tie.Need-returns-then-unreadable
+returns-then-unreadable c = rw c.if-unreadable.true
 
-returns-2 : tie.Need-returns-2
-returns-2 c = rw c.if1.false (omega arith)
+returns-else-unreadable : tie.Need-returns-else-unreadable
+returns-else-unreadable c = rw c.if-unreadable.false (omega arith)
 
-pub unread-after-spec : {M : Type 1} → statement M
-unread-after-spec = tie.close (tie.spec add-result returns returns-2)
+pub unread_after_spec : {M : Type 1} → statement M
+unread_after_spec = tie.close (tie.spec overflow_add-result returns-then-unreadable returns-else-unreadable)

@@ -16,76 +16,63 @@ use Rattle.paths.proofs.Refused.{low_outside}
 use Rattle.paths.proofs.holds_outside.Statement.{statement}
 use Rattle.paths.proofs.holds_outside.Tie as tie
 
-abbrev invariant-loop : tie.invariant-loop
-invariant-loop path i₀ i = (i ≤ length path) × (any outside_path (drop i path) ≡ any outside_path path)
+abbrev invariant-loop-i : tie.invariant-loop-i
+invariant-loop-i path i₀ i = (i ≤ length path) × (any outside_path (drop i path) ≡ any outside_path path)
 
-abbrev decreases-loop : tie.decreases-loop
-decreases-loop path i₀ i = length path - i
+abbrev decreases-loop-i : tie.decreases-loop-i
+decreases-loop-i path i₀ i = length path - i
 
-clear-front-requires : tie.Need-clear-front-requires invariant-loop decreases-loop
-clear-front-requires c κs = omega arith
+clear_front-i-requires : tie.Need-clear_front-i-requires invariant-loop-i decreases-loop-i
+clear_front-i-requires c κs = omega arith
 
-module _ (c : tie.Joined1 invariant-loop decreases-loop) where
+module _ (c : tie.Joined-path-ge8 invariant-loop-i decreases-loop-i) where
   abbrev whole : List ℕ
   whole = c.before.before.args.path.now
 
   -- no octet up to "#" is passed over
-  clear : c.if1.i ≤ length (up_to (among 0 35 true) whole)
-  clear = ⊎_elim (λ t. omega (arith, t.2, t.1.ensures)) (λ t. omega (arith, t.1)) c.if1.branch
+  clear : c.if-path-ge8.i ≤ length (up_to (among 0 35 true) whole)
+  clear = ⊎_elim (λ t. omega (arith, t.2, t.1.ensures)) (λ t. omega (arith, t.1)) c.if-path-ge8.branch
 
-loop-holds : tie.Need-loop-init invariant-loop decreases-loop
-loop-holds c =
+loop-i-init : tie.Need-loop-i-init invariant-loop-i decreases-loop-i
+loop-i-init c =
     (omega (arith, clear c, up_to_fits (among 0 35 true) (whole c)), any_behind outside_path (among 0 35 true) low_outside _ (whole c) (clear c))
 
-module _ (c : tie.At-loop invariant-loop decreases-loop) where
+module _ (c : tie.At-loop-i invariant-loop-i decreases-loop-i) where
   abbrev path : List ℕ
   path = whole c.before
 
   abbrev i : ℕ
-  i = c.loop.i
+  i = c.loop-i.i
 
-shared-slice-read-is-outside-path : tie.Need-shared-slice-read-is-outside-path invariant-loop decreases-loop
-shared-slice-read-is-outside-path c = omega arith
+bounds-path-i : tie.Need-bounds-path-i invariant-loop-i decreases-loop-i
+bounds-path-i c = omega arith
 
-is-outside-path-requires : tie.Need-is-outside-path-requires invariant-loop decreases-loop
-is-outside-path-requires c κs = tt
+is_outside_path-requires : tie.Need-is_outside_path-requires invariant-loop-i decreases-loop-i
+is_outside_path-requires c κs = tt
 
-returns : tie.Need-returns invariant-loop decreases-loop
-returns c =
+returns-then-is_outside_path : tie.Need-returns-then-is_outside_path invariant-loop-i decreases-loop-i
+returns-then-is_outside_path c =
     let s = c.before.before.before.before in
-    let e = sym c.before.is-outside-path.ensures ∙ c.if2.true in
-    sym (any_here outside_path (path s) (i s) 0 (omega arith) e) ∙ s.loop.invariant.1
+    let e = sym c.before.is_outside_path.ensures ∙ c.if-is_outside_path.true in
+    sym (any_here outside_path (path s) (i s) 0 (omega arith) e) ∙ s.loop-i.invariant.1
 
-add-i : tie.Need-overflow-add-i invariant-loop decreases-loop
-add-i c = omega arith
+overflow_add-i : tie.Need-overflow_add-i invariant-loop-i decreases-loop-i
+overflow_add-i c = omega arith
 
-loop-less : tie.Need-loop-smaller invariant-loop decreases-loop
-loop-less c = omega arith
+loop-i-smaller : tie.Need-loop-i-smaller invariant-loop-i decreases-loop-i
+loop-i-smaller c = omega arith
 
-loop-again : tie.Need-loop-preserved invariant-loop decreases-loop
-loop-again c =
+loop-i-preserved : tie.Need-loop-i-preserved invariant-loop-i decreases-loop-i
+loop-i-preserved c =
     let b = c.before in
     let s = b.before.before.before.before in
-    let e = sym b.before.is-outside-path.ensures ∙ b.if2.false in
-    (omega arith, sym (any_on outside_path (path s) (i s) 0 (omega arith) e) ∙ s.loop.invariant.1)
+    let e = sym b.before.is_outside_path.ensures ∙ b.if-is_outside_path.false in
+    (omega arith, sym (any_on outside_path (path s) (i s) 0 (omega arith) e) ∙ s.loop-i.invariant.1)
 
-returns-2 : tie.Need-returns-2 invariant-loop decreases-loop
-returns-2 c =
+returns : tie.Need-returns invariant-loop-i decreases-loop-i
+returns c =
     let s = c.before in
-    sym (any_end outside_path (path s) (i s) (omega arith)) ∙ s.loop.invariant.1
+    sym (any_end outside_path (path s) (i s) (omega arith)) ∙ s.loop-i.invariant.1
 
-pub holds-outside-spec : {M : Type 1} → statement M
-holds-outside-spec =
-    tie.close
-    (tie.spec
-    invariant-loop
-    decreases-loop
-    clear-front-requires
-    loop-holds
-    shared-slice-read-is-outside-path
-    is-outside-path-requires
-    returns
-    add-i
-    loop-less
-    loop-again
-    returns-2)
+pub holds_outside_spec : {M : Type 1} → statement M
+holds_outside_spec = tie.close (tie.spec invariant-loop-i decreases-loop-i clear_front-i-requires loop-i-init bounds-path-i is_outside_path-requires returns-then-is_outside_path overflow_add-i loop-i-smaller loop-i-preserved returns)

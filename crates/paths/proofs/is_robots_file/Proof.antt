@@ -10,61 +10,48 @@ use Rattle.protocol.specs.Decision.{is_robots_file}
 use Rattle.paths.proofs.is_robots_file.Statement.{statement}
 use Rattle.paths.proofs.is_robots_file.Tie as tie
 
-abbrev invariant-loop : tie.invariant-loop
-invariant-loop path wanted i₀ i = (length path ≡ 11) × (same (drop i path) (drop i wanted) ≡ same path wanted)
+abbrev invariant-loop-i : tie.invariant-loop-i
+invariant-loop-i path wanted i₀ i = (length path ≡ 11) × (same (drop i path) (drop i wanted) ≡ same path wanted)
 
-abbrev decreases-loop : tie.decreases-loop
-decreases-loop path wanted i₀ i = length path - i
+abbrev decreases-loop-i : tie.decreases-loop-i
+decreases-loop-i path wanted i₀ i = length path - i
 
-returns : tie.Need-returns invariant-loop decreases-loop
+returns-then-path-ne11 : tie.Need-returns-then-path-ne11 invariant-loop-i decreases-loop-i
 unfolding is_robots_file octets
-returns c = sym (same_length c.before.before.before.args.path.now (octets "/robots.txt") c.if1.true)
+returns-then-path-ne11 c = sym (same_length c.before.before.before.args.path.now (octets "/robots.txt") c.if-path-ne11.true)
 
-loop-holds : tie.Need-loop-init invariant-loop decreases-loop
-loop-holds c = (c.if1.false, refl)
+loop-i-init : tie.Need-loop-i-init invariant-loop-i decreases-loop-i
+loop-i-init c = (c.if-path-ne11.false, refl)
 
-shared-slice-read-if2 : tie.Need-shared-slice-read-if2 invariant-loop decreases-loop
-shared-slice-read-if2 c = omega arith
+bounds-path-i : tie.Need-bounds-path-i invariant-loop-i decreases-loop-i
+bounds-path-i c = omega arith
 
-array-read-if2 : tie.Need-array-read-if2 invariant-loop decreases-loop
-array-read-if2 c = omega arith
+bounds-wanted-i : tie.Need-bounds-wanted-i invariant-loop-i decreases-loop-i
+bounds-wanted-i c = omega arith
 
-returns-2 : tie.Need-returns-2 invariant-loop decreases-loop
+returns-then-path-i : tie.Need-returns-then-path-i invariant-loop-i decreases-loop-i
 unfolding is_robots_file octets
-returns-2 c =
-    let l = c.before.before.before.loop in
-    sym (same_other c.before.before.before.before.before.before.before.args.path.now (octets "/robots.txt") l.i (omega arith) (omega arith) c.if2.true) ∙ l.invariant.1
+returns-then-path-i c =
+    let l = c.before.before.before.loop-i in
+    sym (same_other c.before.before.before.before.before.before.before.args.path.now (octets "/robots.txt") l.i (omega arith) (omega arith) c.if-path-i.true) ∙ l.invariant.1
 
-add-i : tie.Need-overflow-add-i invariant-loop decreases-loop
-add-i c = omega arith
+overflow_add-i : tie.Need-overflow_add-i invariant-loop-i decreases-loop-i
+overflow_add-i c = omega arith
 
-loop-less : tie.Need-loop-smaller invariant-loop decreases-loop
-loop-less c = omega arith
+loop-i-smaller : tie.Need-loop-i-smaller invariant-loop-i decreases-loop-i
+loop-i-smaller c = omega arith
 
-loop-again : tie.Need-loop-preserved invariant-loop decreases-loop
+loop-i-preserved : tie.Need-loop-i-preserved invariant-loop-i decreases-loop-i
 unfolding octets
-loop-again c =
-    let l = c.before.before.before.loop in
-    (l.invariant.0, sym (same_on c.before.before.before.before.before.before.before.args.path.now (octets "/robots.txt") l.i (omega arith) (omega arith) c.if2.false) ∙ l.invariant.1)
+loop-i-preserved c =
+    let l = c.before.before.before.loop-i in
+    (l.invariant.0, sym (same_on c.before.before.before.before.before.before.before.args.path.now (octets "/robots.txt") l.i (omega arith) (omega arith) c.if-path-i.false) ∙ l.invariant.1)
 
-returns-3 : tie.Need-returns-3 invariant-loop decreases-loop
+returns : tie.Need-returns invariant-loop-i decreases-loop-i
 unfolding is_robots_file octets
-returns-3 c =
-    let l = c.before.loop in
+returns c =
+    let l = c.before.loop-i in
     sym (same_end c.before.before.before.before.before.args.path.now (octets "/robots.txt") l.i (omega arith) (omega arith)) ∙ l.invariant.1
 
-pub is-robots-file-spec : {M : Type 1} → statement M
-is-robots-file-spec =
-    tie.close
-    (tie.spec
-    invariant-loop
-    decreases-loop
-    returns
-    loop-holds
-    shared-slice-read-if2
-    array-read-if2
-    returns-2
-    add-i
-    loop-less
-    loop-again
-    returns-3)
+pub is_robots_file_spec : {M : Type 1} → statement M
+is_robots_file_spec = tie.close (tie.spec invariant-loop-i decreases-loop-i returns-then-path-ne11 loop-i-init bounds-path-i bounds-wanted-i returns-then-path-i overflow_add-i loop-i-smaller loop-i-preserved returns)

@@ -7,41 +7,32 @@ use Rattle.paths.proofs.Refused.{path_empty, path_long, path_start, path_octets}
 use Rattle.paths.proofs.path_refusal.Statement.{statement}
 use Rattle.paths.proofs.path_refusal.Tie as tie
 
-returns : tie.Need-returns
-returns c = sym (path_empty c.before.before.args.path.now c.if1.true)
+returns-then-path-eq0 : tie.Need-returns-then-path-eq0
+returns-then-path-eq0 c = sym (path_empty c.before.before.args.path.now c.if-path-eq0.true)
 
-returns-2 : tie.Need-returns-2
-returns-2 c = sym (path_long c.before.before.before.args.path.now c.if2.true)
+returns-then-path-gt2048 : tie.Need-returns-then-path-gt2048
+returns-then-path-gt2048 c = sym (path_long c.before.before.before.args.path.now c.if-path-gt2048.true)
 
-shared-slice-read-if3 : tie.Need-shared-slice-read-if3
-shared-slice-read-if3 c = search rules
+bounds-path-0 : tie.Need-bounds-path-0
+bounds-path-0 c = search rules
 
-returns-3 : tie.Need-returns-3
-returns-3 c =
+returns-then-path-ne47 : tie.Need-returns-then-path-ne47
+returns-then-path-ne47 c =
     let l = c.before.before.before.before.before.args.path.now in
-    sym (path_start l (omega arith) (omega arith) c.if3.true)
+    sym (path_start l (omega arith) (omega arith) c.if-path-ne47.true)
 
-holds-outside-requires : tie.Need-holds-outside-requires
-holds-outside-requires c κs = search rules
+holds_outside-requires : tie.Need-holds_outside-requires
+holds_outside-requires c κs = search rules
 
-returns-4 : tie.Need-returns-4
-returns-4 c =
+returns-then-holds_outside : tie.Need-returns-then-holds_outside
+returns-then-holds_outside c =
     let l = c.before.before.before.before.before.before.before.args.path.now in
-    sym (path_octets l (omega arith) (omega arith) true c.before.before.if3.false (sym c.if4.true ∙ c.before.holds-outside.ensures))
+    sym (path_octets l (omega arith) (omega arith) true c.before.before.if-path-ne47.false (sym c.if-holds_outside.true ∙ c.before.holds_outside.ensures))
 
-returns-5 : tie.Need-returns-5
-returns-5 c =
+returns : tie.Need-returns
+returns c =
     let l = c.before.before.before.before.before.before.before.args.path.now in
-    sym (path_octets l (omega arith) (omega arith) false c.before.before.if3.false (sym c.if4.false ∙ c.before.holds-outside.ensures))
+    sym (path_octets l (omega arith) (omega arith) false c.before.before.if-path-ne47.false (sym c.if-holds_outside.false ∙ c.before.holds_outside.ensures))
 
-pub path-refusal-spec : {M : Type 1} → statement M
-path-refusal-spec =
-    tie.close
-    (tie.spec
-    returns
-    returns-2
-    shared-slice-read-if3
-    returns-3
-    holds-outside-requires
-    returns-4
-    returns-5)
+pub path_refusal_spec : {M : Type 1} → statement M
+path_refusal_spec = tie.close (tie.spec returns-then-path-eq0 returns-then-path-gt2048 bounds-path-0 returns-then-path-ne47 holds_outside-requires returns-then-holds_outside returns)

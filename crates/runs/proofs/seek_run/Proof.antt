@@ -122,7 +122,7 @@ try_run-t-requires c κs =
     let e = c.before.before.before in
     let s = turn (first e) in
     rw (rest_of 1 (run s), rest_of (start (first e)) (path s)) (
-      simp length-drop (found e).ranges,
+      simp length-drop (found e).fits,
       omega (arith, found_counts (run s) (path s) s.loop-at.at s.loop-at.count (first e).try_first-f.result (found e), ap (λ (y : Walked). y.count) s.loop-at.invariant.1),
     )
 

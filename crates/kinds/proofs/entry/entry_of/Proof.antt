@@ -38,22 +38,22 @@ other-entry (Kind.Agent a) e = absurd (false≢true (ap is_other e))
 other-entry (Kind.Rule Side.Allow p) e = absurd (false≢true (ap is_other e))
 other-entry (Kind.Rule Side.Disallow p) e = absurd (false≢true (ap is_other e))
 
-head-in-requires : tie.Need-head-in-requires
-head-in-requires c κs = search rules
+head_in-head-requires : tie.Need-head_in-head-requires
+head_in-head-requires c κs = search rules
 
 -- the line, and the head that it has
-module _ (c : tie.After-head-in) where
+module _ (c : tie.After-head_in-head) where
   abbrev text : List ℕ
   text = c.before.before.args.r.now
 
   abbrev head : Head
-  head = c.head_in.result
+  head = c.head_in-head.result
 
   head-known : head.value.offset ≤ length text
-  head-known = head_inside text head c.head_in.ensures
+  head-known = head_inside text head c.head_in-head.ensures
 
-enum_told : tie.Need-enum-told
-enum_told c = search rules
+enum_told-1 : tie.Need-enum_told-1
+enum_told-1 c = search rules
 
 -- where what is examined ends, by the head
 end-other : (l : List ℕ) (h : Head) → h ≡ head_of l → h.field ≡ Field.Other → place_at 0 ≡ examined_as (head_of l).field (head_of l).value l
@@ -74,29 +74,29 @@ told-by : (l : List ℕ) (k : Kind) (e : Place) → k ≡ entry_kind (kind_of (l
     → record { kind = k; end = e } ≡ entry_told l
 told-by l k e p q = rw (p, q)
 
-returns : tie.Need-returns
-returns c =
+returns-in-Other : tie.Need-returns-in-Other
+returns-in-Other c =
     let h = c.before.before in
-    let other = c.enum_told.given.1 in
+    let other = c.in-Other.is in
     told-by (text h) Kind.Other (place_at 0)
-    (other-entry (kind_of (line_text (text h))) (sym (head_field (text h) (head h) h.head_in.ensures) ∙ other))
-    (end-other (text h) (head h) h.head_in.ensures other)
+    (other-entry (kind_of (line_text (text h))) (sym (head_field (text h) (head h) h.head_in-head.ensures) ∙ other))
+    (end-other (text h) (head h) h.head_in-head.ensures other)
 
-sub-rest : tie.Need-overflow-sub-rest
-sub-rest c = head-known c.before
+slice_bounds-rest-count : tie.Need-slice_bounds-rest-count
+slice_bounds-rest-count c = head-known c.before
 
-part-rest-start : tie.Need-slice-bounds-rest-start
-part-rest-start c = head-known c.before
+slice_bounds-rest-start : tie.Need-slice_bounds-rest-start
+slice_bounds-rest-start c = head-known c.before
 
-part-rest-end : tie.Need-slice-bounds-rest-end
-part-rest-end c = search rules
+slice_bounds-rest-end : tie.Need-slice_bounds-rest-end
+slice_bounds-rest-end c = search rules
 
-value-in-requires : tie.Need-value-in-requires
-value-in-requires c κs = search rules
+value_in-told-requires : tie.Need-value_in-told-requires
+value_in-told-requires c κs = search rules
 
 -- its value
-module _ (c : tie.After-value-in) where
-  abbrev seen : tie.After-head-in
+module _ (c : tie.After-value_in-told) where
+  abbrev seen : tie.After-head_in-head
   seen = c.before.before.before
 
   abbrev start : ℕ
@@ -106,10 +106,10 @@ module _ (c : tie.After-value-in) where
   rest = take (length (text seen) - start) (drop start (text seen))
 
   abbrev size : ℕ
-  size = c.value_in.result.octets
+  size = c.value_in-told.result.octets
 
   size-known : size ≡ length (trim_end (up_to stop rest))
-  size-known = ap (λ (v : Value). v.octets) c.value_in.ensures
+  size-known = ap (λ (v : Value). v.octets) c.value_in-told.ensures
 
   size_in : size ≤ length rest
   size_in = omega (arith, size-known, value_fits rest)
@@ -117,77 +117,59 @@ module _ (c : tie.After-value-in) where
   value_known : take size rest ≡ value_at (head seen).value (text seen)
   value_known = value_at_lem (text seen) (head seen).value size size-known
 
-  ordinary-known : c.value_in.result.ordinary ≡ all ordinary (take size rest)
+  ordinary-known : c.value_in-told.result.ordinary ≡ all ordinary (take size rest)
   ordinary-known =
-      ap (λ (v : Value). v.ordinary) c.value_in.ensures ∙ ap (all ordinary) (value_of (text seen) (head seen).value ∙ sym value_known)
+      ap (λ (v : Value). v.ordinary) c.value_in-told.ensures ∙ ap (all ordinary) (value_of (text seen) (head seen).value ∙ sym value_known)
 
-slice-aggregate-value : tie.Need-slice-aggregate-value
-slice-aggregate-value c = let v = c.before in sym (length-take-le (size v) (rest v) (size_in v))
+slice_bounds-value-end : tie.Need-slice_bounds-value-end
+slice_bounds-value-end c = let v = c.before in sym (length-take-le (size v) (rest v) (size_in v))
 
-add-last : tie.Need-overflow-add-last
-add-last c =
+overflow_add-last : tie.Need-overflow_add-last
+overflow_add-last c =
     let v = c.before.before in
     omega (arith, size_in v, head-known (seen v), length-take (length (text (seen v)) - start v) (drop (start v) (text (seen v))))
 
 -- where it ends
-end-told : (v : tie.After-value-in) → place_at (start v + size v) ≡ examined_as (head_of (text (seen v))).field (head_of (text (seen v))).value (text (seen v))
+end-told : (v : tie.After-value_in-told) → place_at (start v + size v) ≡ examined_as (head_of (text (seen v))).field (head_of (text (seen v))).value (text (seen v))
 end-told v =
     let h = seen v in
     ap place_at (omega (arith, size-known v, ap length (value_of (text h) (head h).value)))
-    ∙ end_known (text h) (head h) h.head_in.ensures v.before.before.match.keys2
+    ∙ end_known (text h) (head h) h.head_in-head.ensures v.before.before.in_default.in_default-own.keys2
 
-enum-told-2 : tie.Need-enum-told-2
-enum-told-2 c = search rules
+enum_told-in-Agent : tie.Need-enum_told-in-Agent
+enum_told-in-Agent c = search rules
 
-agent-at-requires : tie.Need-agent-at-requires
-agent-at-requires c κs = search rules
+agent_at-requires : tie.Need-agent_at-requires
+agent_at-requires c κs = search rules
 
-returns-2 : tie.Need-returns-2
-returns-2 c =
+returns-in-Agent : tie.Need-returns-in-Agent
+returns-in-Agent c =
     let t = c.before in
     let v = t.before.before.before.before in
     let h = seen v in
     told-by (text h) _ _
-    (ap Kind.Agent (c.agent-at.ensures ∙ ap (agent_at (head h).value) (value_known v))
-    ∙ ap entry_kind (kind_head (text h) (head h) h.head_in.ensures Field.Agent t.enum-told2.given.1))
+    (ap Kind.Agent (c.agent_at.ensures ∙ ap (agent_at (head h).value) (value_known v))
+    ∙ ap entry_kind (kind_head (text h) (head h) h.head_in-head.ensures Field.Agent t.in-Agent.is))
     (end-told v)
 
-side-of-requires : tie.Need-side-of-requires
-side-of-requires c κs = tt
+side_of-side-requires : tie.Need-side_of-side-requires
+side_of-side-requires c κs = tt
 
-is-pattern-requires : tie.Need-is-pattern-requires
-is-pattern-requires c κs = ordinary-known c.before.before.before.before
+is_pattern-is_readable-requires : tie.Need-is_pattern-is_readable-requires
+is_pattern-is_readable-requires c κs = ordinary-known c.before.before.before
 
-pattern-at-requires : tie.Need-pattern-at-requires
-pattern-at-requires c κs = search rules
+pattern_at-pattern-requires : tie.Need-pattern_at-pattern-requires
+pattern_at-pattern-requires c κs = search rules
 
-returns-3 : tie.Need-returns-3
-returns-3 c =
+returns : tie.Need-returns
+returns c =
     let p = c.before.before in
     let v = p.before.before.before.before in
     let h = seen v in
     told-by (text h) _ _
-    (rw (p.side-of.ensures, c.pattern-at.ensures, value_known v)
-    (ap entry_kind (kind_rule (text h) (head h) h.head_in.ensures v.before.before.match.keys2 p.before.match2.keys2)))
+    (rw (p.side_of-side.ensures, c.pattern_at-pattern.ensures, value_known v)
+    (ap entry_kind (kind_rule (text h) (head h) h.head_in-head.ensures v.before.before.in_default.in_default-own.keys2 p.before.in_default-field.in_default-own.keys2)))
     (end-told v)
 
-pub entry-of-spec : {M : Type 1} → statement M
-entry-of-spec =
-    tie.close
-    (tie.spec
-    head-in-requires
-    enum_told
-    returns
-    sub-rest
-    part-rest-start
-    part-rest-end
-    value-in-requires
-    slice-aggregate-value
-    add-last
-    enum-told-2
-    agent-at-requires
-    returns-2
-    side-of-requires
-    is-pattern-requires
-    pattern-at-requires
-    returns-3)
+pub entry_of_spec : {M : Type 1} → statement M
+entry_of_spec = tie.close (tie.spec head_in-head-requires enum_told-1 returns-in-Other slice_bounds-rest-count slice_bounds-rest-start slice_bounds-rest-end value_in-told-requires slice_bounds-value-end overflow_add-last enum_told-in-Agent agent_at-requires returns-in-Agent side_of-side-requires is_pattern-is_readable-requires pattern_at-pattern-requires returns)

@@ -5,19 +5,19 @@ use borrow.Author.Rules.{rules}
 use Rattle.kinds.proofs.entry.is_pattern.Statement.{statement}
 use Rattle.kinds.proofs.entry.is_pattern.Tie as tie
 
-pattern-start-requires : tie.Need-pattern-start-requires
-pattern-start-requires c κs = tt
+pattern_start-requires : tie.Need-pattern_start-requires
+pattern_start-requires c κs = tt
+
+returns-then-usual : tie.Need-returns-then-usual
+returns-then-usual c =
+    let s = c.before.before.before in
+    c.pattern_start.ensures ∙ sym (ordinary_readable s.args.value.now (sym s.requires ∙ c.before.if-usual.true))
+
+readable_pattern-requires : tie.Need-readable_pattern-requires
+readable_pattern-requires c κs = tt
 
 returns : tie.Need-returns
-returns c =
-    let s = c.before.before.before in
-    c.pattern-start.ensures ∙ sym (ordinary_readable s.args.value.now (sym s.requires ∙ c.before.if1.true))
+returns c = c.readable_pattern.ensures
 
-readable-pattern-requires : tie.Need-readable-pattern-requires
-readable-pattern-requires c κs = tt
-
-returns-2 : tie.Need-returns-2
-returns-2 c = c.readable-pattern.ensures
-
-pub is-pattern-spec : {M : Type 1} → statement M
-is-pattern-spec = tie.close (tie.spec pattern-start-requires returns readable-pattern-requires returns-2)
+pub is_pattern_spec : {M : Type 1} → statement M
+is_pattern_spec = tie.close (tie.spec pattern_start-requires returns-then-usual readable_pattern-requires returns)

@@ -20,34 +20,34 @@ use Rattle.text.proofs.Seeks.{up_to_part, scan_from}
 use Rattle.kinds.proofs.entry.ordinary_words.Statement.{statement}
 use Rattle.kinds.proofs.entry.ordinary_words.Tie as tie
 
-abbrev invariant-loop : tie.invariant-loop
-invariant-loop s i₀ i = (i ≤ length s) × (i + length (up_to unusual (drop i s)) ≡ length (up_to unusual s))
+abbrev invariant-loop-i : tie.invariant-loop-i
+invariant-loop-i s i₀ i = (i ≤ length s) × (i + length (up_to unusual (drop i s)) ≡ length (up_to unusual s))
 
-abbrev decreases-loop : tie.decreases-loop
-decreases-loop s i₀ i = length s - i
+abbrev decreases-loop-i : tie.decreases-loop-i
+decreases-loop-i s i₀ i = length s - i
 
-loop-holds : tie.Need-loop-init invariant-loop decreases-loop
-loop-holds c = (omega arith, omega arith)
+loop-i-init : tie.Need-loop-i-init invariant-loop-i decreases-loop-i
+loop-i-init c = (omega arith, omega arith)
 
-sub-loop : tie.Need-overflow-sub-loop invariant-loop decreases-loop
-sub-loop c = omega (arith, c.loop.invariant.0)
+overflow_sub-s : tie.Need-overflow_sub-s invariant-loop-i decreases-loop-i
+overflow_sub-s c = omega (arith, c.loop-i.invariant.0)
 
-word-at-requires : tie.Need-word-at-requires invariant-loop decreases-loop
-word-at-requires c κs = omega (arith, c.before.loop.invariant.0)
+word_at-requires : tie.Need-word_at-requires invariant-loop-i decreases-loop-i
+word_at-requires c κs = omega (arith, c.before.loop-i.invariant.0)
 
-marks-requires : tie.Need-marks-requires invariant-loop decreases-loop
-marks-requires c κs = omega arith
+marks-m-requires : tie.Need-marks-m-requires invariant-loop-i decreases-loop-i
+marks-m-requires c κs = omega arith
 
-first-mark-requires : tie.Need-first-mark-requires invariant-loop decreases-loop
-first-mark-requires c κs = tt
+first_mark-requires : tie.Need-first_mark-requires invariant-loop-i decreases-loop-i
+first_mark-requires c κs = tt
 
 -- the text, where the search has come to, and the word there
-module _ (l : tie.At-loop invariant-loop decreases-loop) where
+module _ (l : tie.At-loop-i invariant-loop-i decreases-loop-i) where
   abbrev text : List ℕ
   text = l.before.before.args.s.now
 
   abbrev here : ℕ
-  here = l.loop.i
+  here = l.loop-i.i
 
   abbrev eight : List ℕ
   eight = take 8 (drop here text)
@@ -56,26 +56,26 @@ module _ (l : tie.At-loop invariant-loop decreases-loop) where
   front = length (up_to unusual eight)
 
   on : (r : ℕ) → r ≡ here + front → r + length (up_to unusual (drop r text)) ≡ length (up_to unusual text)
-  on r e = scan_from unusual text here _ r (up_to_part unusual 8 (drop here text)) e ∙ l.loop.inv.1
+  on r e = scan_from unusual text here _ r (up_to_part unusual 8 (drop here text)) e ∙ l.loop-i.invariant.1
 
-module _ (c : tie.After-marks invariant-loop decreases-loop) where
-  abbrev loop : tie.At-loop invariant-loop decreases-loop
+module _ (c : tie.After-marks-m invariant-loop-i decreases-loop-i) where
+  abbrev loop : tie.At-loop-i invariant-loop-i decreases-loop-i
   loop = c.before.before.before
 
-  zero-none : (c.marks.result ≡ 0) ↔ (any unusual (octets_of 8 c.before.word_at.result) ≡ false)
-  zero-none = no_marks unusual 8 c.marks.result (octets_of 8 c.before.word_at.result) (omega arith) c.marks.ensures
+  zero-none : (c.marks-m.result ≡ 0) ↔ (any unusual (octets_of 8 c.before.word_at.result) ≡ false)
+  zero-none = no_marks unusual 8 c.marks-m.result (octets_of 8 c.before.word_at.result) (omega arith) c.marks-m.ensures
 
   noted : any unusual (octets_of 8 c.before.word_at.result) ≡ any unusual (eight loop)
   noted = ap (any unusual) c.before.word_at.ensures
 
   -- a word of ordinary octets
-  none : c.marks.result ≡ 0 → front loop ≡ 8
+  none : c.marks-m.result ≡ 0 → front loop ≡ 8
   none z =
       ap length (up_to_none unusual (eight loop) (sym noted ∙ zero-none.0 z))
       ∙ length-take-le 8 (drop (here loop) (text loop)) (simp length-drop (omega arith))
 
   -- one with an unusual octet, which then stands at its front
-  some : (c.marks.result ≡ 0 → ⊥) → length (up_to unusual (drop (here loop + front loop) (text loop))) ≡ 0
+  some : (c.marks-m.result ≡ 0 → ⊥) → length (up_to unusual (drop (here loop + front loop) (text loop))) ≡ 0
   some z =
       let l = loop in
       let seen : any unusual (eight l) ≡ true = split (any unusual (eight l)) (λ e. e) (λ e. absurd (z (zero-none.1 (noted ∙ e)))) in
@@ -86,83 +86,63 @@ module _ (c : tie.After-marks invariant-loop decreases-loop) where
       scan_stop unusual (text l) (here l + front l) 0 (omega (arith, length-take 8 (drop (here l) (text l)), length-drop (here l) (text l))) there
 
 -- the first unusual octet of a word
-module _ (c : tie.After-first-mark invariant-loop decreases-loop) where
-  abbrev marked : tie.After-marks invariant-loop decreases-loop
+module _ (c : tie.After-first_mark invariant-loop-i decreases-loop-i) where
+  abbrev marked : tie.After-marks-m invariant-loop-i decreases-loop-i
   marked = c.before.before
 
-  found : c.first-mark.result ≡ front (loop marked)
+  found : c.first_mark.result ≡ front (loop marked)
   found =
-      c.first-mark.ensures
-      ∙ first_found unusual 8 marked.before.word_at.result marked.marks.result (eight (loop marked))
-      marked.before.word_at.ensures marked.marks.ensures
+      c.first_mark.ensures
+      ∙ first_found unusual 8 marked.before.word_at.result marked.marks-m.result (eight (loop marked))
+      marked.before.word_at.ensures marked.marks-m.ensures
 
-add-result : tie.Need-overflow-add-result invariant-loop decreases-loop
-add-result c =
+overflow_add-result : tie.Need-overflow_add-result invariant-loop-i decreases-loop-i
+overflow_add-result c =
     let l = loop (marked c) in
-    omega (arith, found c, up_to_fits unusual (eight l), length-take 8 (drop (here l) (text l)), l.loop.inv.0)
+    omega (arith, found c, up_to_fits unusual (eight l), length-take 8 (drop (here l) (text l)), l.loop-i.invariant.0)
 
-returns : tie.Need-returns invariant-loop decreases-loop
-returns c =
+returns-then-m-ne0 : tie.Need-returns-then-m-ne0 invariant-loop-i decreases-loop-i
+returns-then-m-ne0 c =
     let l = loop (marked c) in
-    omega (arith, found c, on l (here l + front l) refl, some (marked c) c.before.if1.true)
+    omega (arith, found c, on l (here l + front l) refl, some (marked c) c.before.if-m-ne0.true)
 
-add-i : tie.Need-overflow-add-i invariant-loop decreases-loop
-add-i c = let l = loop c.before in omega (arith, l.loop.inv.0)
+overflow_add-i : tie.Need-overflow_add-i invariant-loop-i decreases-loop-i
+overflow_add-i c = let l = loop c.before in omega (arith, l.loop-i.invariant.0)
 
-loop-less : tie.Need-loop-smaller invariant-loop decreases-loop
-loop-less c = omega arith
+loop-i-smaller : tie.Need-loop-i-smaller invariant-loop-i decreases-loop-i
+loop-i-smaller c = omega arith
 
-loop-again : tie.Need-loop-preserved invariant-loop decreases-loop
-loop-again c =
+loop-i-preserved : tie.Need-loop-i-preserved invariant-loop-i decreases-loop-i
+loop-i-preserved c =
     let m = c.before in
     let l = loop m in
-    (omega arith, on l (here l + 8) (omega (arith, none m c.if1.false)))
+    (omega arith, on l (here l + 8) (omega (arith, none m c.if-m-ne0.false)))
 
-sub-ordinary-front : tie.Need-overflow-sub-ordinary-front invariant-loop decreases-loop
-sub-ordinary-front c = c.before.loop.invariant.0
+slice_bounds-ordinary_front-count : tie.Need-slice_bounds-ordinary_front-count invariant-loop-i decreases-loop-i
+slice_bounds-ordinary_front-count c = c.before.loop-i.invariant.0
 
-part-ordinary-front-start : tie.Need-slice-bounds-ordinary-front-start invariant-loop decreases-loop
-part-ordinary-front-start c = c.before.loop.invariant.0
+slice_bounds-ordinary_front-start : tie.Need-slice_bounds-ordinary_front-start invariant-loop-i decreases-loop-i
+slice_bounds-ordinary_front-start c = c.before.loop-i.invariant.0
 
-part-ordinary-front-end : tie.Need-slice-bounds-ordinary-front-end invariant-loop decreases-loop
-part-ordinary-front-end c = search rules
+slice_bounds-ordinary_front-end : tie.Need-slice_bounds-ordinary_front-end invariant-loop-i decreases-loop-i
+slice_bounds-ordinary_front-end c = search rules
 
-ordinary-front-requires : tie.Need-ordinary-front-requires invariant-loop decreases-loop
-ordinary-front-requires c κs = tt
+ordinary_front-requires : tie.Need-ordinary_front-requires invariant-loop-i decreases-loop-i
+ordinary_front-requires c κs = tt
 
 -- past the last whole word
-module _ (c : tie.After-ordinary-front invariant-loop decreases-loop) where
-  abbrev last : tie.At-loop invariant-loop decreases-loop
+module _ (c : tie.After-ordinary_front invariant-loop-i decreases-loop-i) where
+  abbrev last : tie.At-loop-i invariant-loop-i decreases-loop-i
   last = c.before.before.before
 
-  whole : here last + c.ordinary-front.result ≡ length (up_to unusual (text last))
-  whole = ap (λ (n : ℕ). here last + n) (c.ordinary-front.ensures ∙ ap (λ (l : List ℕ). length (up_to unusual l)) (rest_of (here last) (text last))) ∙ last.loop.inv.1
+  whole : here last + c.ordinary_front.result ≡ length (up_to unusual (text last))
+  whole = ap (λ (n : ℕ). here last + n) (c.ordinary_front.ensures ∙ ap (λ (l : List ℕ). length (up_to unusual l)) (rest_of (here last) (text last))) ∙ last.loop-i.invariant.1
 
-add-result-2 : tie.Need-overflow-add-result-2 invariant-loop decreases-loop
-add-result-2 c = omega (arith, whole c, up_to_fits unusual (text (last c)))
+overflow_add-result-2 : tie.Need-overflow_add-result-2 invariant-loop-i decreases-loop-i
+overflow_add-result-2 c = omega (arith, whole c, up_to_fits unusual (text (last c)))
 
-returns-2 : tie.Need-returns-2 invariant-loop decreases-loop
-returns-2 c = whole c
+returns : tie.Need-returns invariant-loop-i decreases-loop-i
+returns c = whole c
 
-pub ordinary-words-spec : {M : Type 1} → statement M
-ordinary-words-spec =
-    tie.close
-    (tie.spec
-    invariant-loop
-    decreases-loop
-    loop-holds
-    sub-loop
-    word-at-requires
-    marks-requires
-    first-mark-requires
-    add-result
-    returns
-    add-i
-    loop-less
-    loop-again
-    sub-ordinary-front
-    part-ordinary-front-start
-    part-ordinary-front-end
-    ordinary-front-requires
-    add-result-2
-    returns-2)
+pub ordinary_words_spec : {M : Type 1} → statement M
+ordinary_words_spec = tie.close (tie.spec invariant-loop-i decreases-loop-i loop-i-init overflow_sub-s word_at-requires marks-m-requires first_mark-requires overflow_add-result returns-then-m-ne0 overflow_add-i loop-i-smaller loop-i-preserved slice_bounds-ordinary_front-count slice_bounds-ordinary_front-start slice_bounds-ordinary_front-end ordinary_front-requires overflow_add-result-2 returns)

@@ -13,20 +13,20 @@ use Rattle.kinds.proofs.Fronts.{value_fits, value_at_lem}
 use Rattle.kinds.proofs.line.agent_of.Statement.{statement}
 use Rattle.kinds.proofs.line.agent_of.Tie as tie
 
-sub-rest : tie.Need-overflow-sub-rest
-sub-rest c = search rules
+slice_bounds-rest-count : tie.Need-slice_bounds-rest-count
+slice_bounds-rest-count c = search rules
 
-part-rest-start : tie.Need-slice-bounds-rest-start
-part-rest-start c = search rules
+slice_bounds-rest-start : tie.Need-slice_bounds-rest-start
+slice_bounds-rest-start c = search rules
 
-part-rest-end : tie.Need-slice-bounds-rest-end
-part-rest-end c = search rules
+slice_bounds-rest-end : tie.Need-slice_bounds-rest-end
+slice_bounds-rest-end c = search rules
 
-value-length-requires : tie.Need-value-length-requires
-value-length-requires c κs = search rules
+value_length-end-requires : tie.Need-value_length-end-requires
+value_length-end-requires c κs = search rules
 
 -- the octets from the value on, and how many are its
-module _ (c : tie.After-value-length) where
+module _ (c : tie.After-value_length-end) where
   abbrev text : List ℕ
   text = c.before.before.before.args.r.now
 
@@ -37,31 +37,22 @@ module _ (c : tie.After-value-length) where
   rest = take (length text - value.offset) (drop value.offset text)
 
   abbrev size : ℕ
-  size = c.value-length.result
+  size = c.value_length-end.result
 
   size_in : size ≤ length rest
-  size_in = omega (arith, c.value-length.ensures, value_fits rest)
+  size_in = omega (arith, c.value_length-end.ensures, value_fits rest)
 
   told : take size rest ≡ value_at value text
-  told = value_at_lem text value size c.value-length.ensures
+  told = value_at_lem text value size c.value_length-end.ensures
 
-slice-aggregate-agent-at : tie.Need-slice-aggregate-agent-at
-slice-aggregate-agent-at c = sym (length-take-le (size c.before) (rest c.before) (size_in c.before))
+slice_bounds-agent_at-end : tie.Need-slice_bounds-agent_at-end
+slice_bounds-agent_at-end c = sym (length-take-le (size c) (rest c.before) (size_in c.before))
 
-agent-at-requires : tie.Need-agent-at-requires
-agent-at-requires c κs = search rules
+agent_at-requires : tie.Need-agent_at-requires
+agent_at-requires c κs = search rules
 
 returns : tie.Need-returns
-returns c = c.agent-at.ensures ∙ ap (agent_at (value c.before.before)) (told c.before.before)
+returns c = c.agent_at.ensures ∙ ap (agent_at (value c.before)) (told c.before.before)
 
-pub agent-of-spec : {M : Type 1} → statement M
-agent-of-spec =
-    tie.close
-    (tie.spec
-    sub-rest
-    part-rest-start
-    part-rest-end
-    value-length-requires
-    slice-aggregate-agent-at
-    agent-at-requires
-    returns)
+pub agent_of_spec : {M : Type 1} → statement M
+agent_of_spec = tie.close (tie.spec slice_bounds-rest-count slice_bounds-rest-start slice_bounds-rest-end value_length-end-requires slice_bounds-agent_at-end agent_at-requires returns)

@@ -12,14 +12,14 @@ use Rattle.kinds.proofs.Fronts.{ended_none, ended_here}
 use Rattle.kinds.proofs.line.ends_at.Statement.{statement}
 use Rattle.kinds.proofs.line.ends_at.Tie as tie
 
-returns : tie.Need-returns
-returns c = let a = c.before.before.args in sym (ended_none a.s.now a.at.offset c.if1.true)
+returns-then-s-i : tie.Need-returns-then-s-i
+returns-then-s-i c = let a = c.before.before.args in sym (ended_none a.s.now a.at.offset c.if-s-i.true)
 
-shared-slice-read-if2 : tie.Need-shared-slice-read-if2
-shared-slice-read-if2 c = search rules
+bounds-s-i : tie.Need-bounds-s-i
+bounds-s-i c = search rules
 
 -- the octet that tells
-module _ (c : tie.Else1) where
+module _ (c : tie.Else-s-i) where
   abbrev text : List ℕ
   text = c.before.before.args.s.now
 
@@ -29,18 +29,17 @@ module _ (c : tie.Else1) where
   told : stop (get_or text here 0) ≡ ended (drop here text)
   told = sym (ended_here text here (omega arith))
 
-returns-2 : tie.Need-returns-2
-returns-2 c = let e = c.before.before in sym (past_stop (get_or (text e) (here e) 0) (omega arith)) ∙ told e
+returns-then-s-i-gt35 : tie.Need-returns-then-s-i-gt35
+returns-then-s-i-gt35 c = let e = c.before.before in sym (past_stop (get_or (text e) (here e) 0) (omega arith)) ∙ told e
 
-shared-slice-read-is-of : tie.Need-shared-slice-read-is-of
-shared-slice-read-is-of c = search rules
+bounds-s-i-2 : tie.Need-bounds-s-i-2
+bounds-s-i-2 c = search rules
 
-is-of-requires : tie.Need-is-of-requires
-is-of-requires c κs = search rules
+is_of-requires : tie.Need-is_of-requires
+is_of-requires c κs = search rules
 
-returns-3 : tie.Need-returns-3
-returns-3 c = c.is-of.ensures ∙ told c.before.before.before.before
+returns : tie.Need-returns
+returns c = c.is_of.ensures ∙ told c.before.before.before.before
 
-pub ends-at-spec : {M : Type 1} → statement M
-ends-at-spec =
-    tie.close (tie.spec returns shared-slice-read-if2 returns-2 shared-slice-read-is-of is-of-requires returns-3)
+pub ends_at_spec : {M : Type 1} → statement M
+ends_at_spec = tie.close (tie.spec returns-then-s-i bounds-s-i returns-then-s-i-gt35 bounds-s-i-2 is_of-requires returns)

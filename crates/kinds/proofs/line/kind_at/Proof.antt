@@ -13,8 +13,8 @@ use Rattle.fields.proofs.Heads.{head_field, head_inside, kind_head, kind_rule}
 use Rattle.kinds.proofs.line.kind_at.Statement.{statement}
 use Rattle.kinds.proofs.line.kind_at.Tie as tie
 
-enum_told : tie.Need-enum-told
-enum_told c = search rules
+enum_told-1 : tie.Need-enum_told-1
+enum_told-1 c = search rules
 
 -- the line, and the head that it has
 module _ (c : tie.Start) where
@@ -24,52 +24,41 @@ module _ (c : tie.Start) where
   abbrev head : Head
   head = c.args.head
 
-idle-kind-requires : tie.Need-idle-kind-requires
-idle-kind-requires c κs =
-    let s = c.before.before.before in (search rules, sym (head_field (text s) (head s) s.requires.1) ∙ c.enum_told.given.1)
+idle_kind-requires : tie.Need-idle_kind-requires
+idle_kind-requires c κs =
+    let s = c.before.before in (search rules, sym (head_field (text s) (head s) s.requires.1) ∙ c.in-Other.is)
 
-returns : tie.Need-returns
-returns c = c.idle-kind.ensures
+returns-in-Other : tie.Need-returns-in-Other
+returns-in-Other c = c.idle_kind.ensures
 
-enum-told-2 : tie.Need-enum-told-2
-enum-told-2 c = search rules
+enum_told-in-Agent : tie.Need-enum_told-in-Agent
+enum_told-in-Agent c = search rules
 
-agent-of-requires : tie.Need-agent-of-requires
-agent-of-requires c κs = let s = c.before.before.before.before in (search rules, head_inside (text s) (head s) s.requires.1)
+agent_of-requires : tie.Need-agent_of-requires
+agent_of-requires c κs = let s = c.before.before.before.before in (search rules, head_inside (text s) (head s) s.requires.1)
 
-returns-2 : tie.Need-returns-2
-returns-2 c =
+returns-in-Agent : tie.Need-returns-in-Agent
+returns-in-Agent c =
     let told = c.before in
     let s = told.before.before.before.before in
-    ap Kind.Agent c.agent-of.ensures ∙ kind_head (text s) (head s) s.requires.1 Field.Agent told.enum-told2.given.1
+    ap Kind.Agent c.agent_of.ensures ∙ kind_head (text s) (head s) s.requires.1 Field.Agent told.in-Agent.is
 
-side-of-requires : tie.Need-side-of-requires
-side-of-requires c κs = tt
+side_of-side-requires : tie.Need-side_of-side-requires
+side_of-side-requires c κs = tt
 
 -- the field is a rule's
-module _ (c : tie.After-side-of) where
+module _ (c : tie.After-side_of-side) where
   abbrev start : tie.Start
   start = c.before.before.before.before
 
   rule : Kind.Rule (side_of (head start).field) (pattern_at (head start).value (value_at (head start).value (text start))) ≡ kind_of (line_text (text start))
-  rule = kind_rule (text start) (head start) start.pre.1 c.before.before.match.keys2 c.before.match2.keys2
+  rule = kind_rule (text start) (head start) start.requires.1 c.before.before.in_default.in_default-own.keys2 c.before.in_default-field.in_default-own.keys2
 
-pattern-of-requires : tie.Need-pattern-of-requires
-pattern-of-requires c κs = let s = start c in (search rules, head_inside (text s) (head s) s.pre.1)
+pattern_of-requires : tie.Need-pattern_of-requires
+pattern_of-requires c κs = let s = start c.before in (search rules, head_inside (text s) (head s) s.requires.1)
 
-returns-3 : tie.Need-returns-3
-returns-3 c = rw (c.before.side-of.ensures, c.pattern-of.ensures) (rule c.before)
+returns : tie.Need-returns
+returns c = rw (c.before.side_of-side.ensures, c.pattern_of.ensures) (rule c.before)
 
-pub kind-at-spec : {M : Type 1} → statement M
-kind-at-spec =
-    tie.close
-    (tie.spec
-    enum_told
-    idle-kind-requires
-    returns
-    enum-told-2
-    agent-of-requires
-    returns-2
-    side-of-requires
-    pattern-of-requires
-    returns-3)
+pub kind_at_spec : {M : Type 1} → statement M
+kind_at_spec = tie.close (tie.spec enum_told-1 idle_kind-requires returns-in-Other enum_told-in-Agent agent_of-requires returns-in-Agent side_of-side-requires pattern_of-requires returns)

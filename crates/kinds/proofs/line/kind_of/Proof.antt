@@ -5,21 +5,20 @@ use Rattle.kinds.proofs.Idle.{ended_blank}
 use Rattle.kinds.proofs.line.kind_of.Statement.{statement}
 use Rattle.kinds.proofs.line.kind_of.Tie as tie
 
-ends-at-requires : tie.Need-ends-at-requires
-ends-at-requires c κs = search rules
+ends_at-requires : tie.Need-ends_at-requires
+ends_at-requires c κs = search rules
+
+returns-then-ends_at : tie.Need-returns-then-ends_at
+returns-then-ends_at c = ended_blank c.before.before.before.args.r.now (sym c.before.ends_at.ensures ∙ c.if-ends_at.true)
+
+head_of-requires : tie.Need-head_of-requires
+head_of-requires c κs = search rules
+
+kind_at-requires : tie.Need-kind_at-requires
+kind_at-requires c κs = search rules
 
 returns : tie.Need-returns
-returns c = ended_blank c.before.before.before.args.r.now (sym c.before.ends_at.ensures ∙ c.if1.true)
+returns c = search rules
 
-head-of-requires : tie.Need-head-of-requires
-head-of-requires c κs = search rules
-
-kind-at-requires : tie.Need-kind-at-requires
-kind-at-requires c κs = search rules
-
-returns-2 : tie.Need-returns-2
-returns-2 c = search rules
-
-pub kind-of-spec : {M : Type 1} → statement M
-kind-of-spec =
-    tie.close (tie.spec ends-at-requires returns head-of-requires kind-at-requires returns-2)
+pub kind_of_spec : {M : Type 1} → statement M
+kind_of_spec = tie.close (tie.spec ends_at-requires returns-then-ends_at head_of-requires kind_at-requires returns)

@@ -5,18 +5,18 @@ use Rattle.kinds.proofs.Kinding.{pattern_none, pattern_readable, pattern_unreada
 use Rattle.kinds.proofs.line.pattern_at.Statement.{statement}
 use Rattle.kinds.proofs.line.pattern_at.Tie as tie
 
-returns : tie.Need-returns
-returns c = let a = c.before.args in pattern_none a.value.now a.place c.if1.true
+returns-then-value-eq0 : tie.Need-returns-then-value-eq0
+returns-then-value-eq0 c = let a = c.before.args in pattern_none a.value.now a.place c.if-value-eq0.true
 
-returns-2 : tie.Need-returns-2
-returns-2 c =
+returns-then-readable : tie.Need-returns-then-readable
+returns-then-readable c =
     let start = c.before.before in
-    pattern_readable start.args.value.now start.args.place (omega arith) (sym start.requires ∙ c.if2.true)
+    pattern_readable start.args.value.now start.args.place (omega arith) (sym start.requires ∙ c.if-readable.true)
 
-returns-3 : tie.Need-returns-3
-returns-3 c =
+returns-else-readable : tie.Need-returns-else-readable
+returns-else-readable c =
     let start = c.before.before in
-    pattern_unreadable start.args.value.now start.args.place (omega arith) (sym start.requires ∙ c.if2.false)
+    pattern_unreadable start.args.value.now start.args.place (omega arith) (sym start.requires ∙ c.if-readable.false)
 
-pub pattern-at-spec : {M : Type 1} → statement M
-pattern-at-spec = tie.close (tie.spec returns returns-2 returns-3)
+pub pattern_at_spec : {M : Type 1} → statement M
+pattern_at_spec = tie.close (tie.spec returns-then-value-eq0 returns-then-readable returns-else-readable)

@@ -17,23 +17,23 @@ use Rattle.kinds.proofs.Fronts.{value_fits, value_of, value_at_lem, front_value,
 use Rattle.kinds.proofs.line.pattern_of.Statement.{statement}
 use Rattle.kinds.proofs.line.pattern_of.Tie as tie
 
-sub-rest : tie.Need-overflow-sub-rest
-sub-rest c = search rules
+slice_bounds-rest-count : tie.Need-slice_bounds-rest-count
+slice_bounds-rest-count c = search rules
 
-part-rest-start : tie.Need-slice-bounds-rest-start
-part-rest-start c = search rules
+slice_bounds-rest-start : tie.Need-slice_bounds-rest-start
+slice_bounds-rest-start c = search rules
 
-part-rest-end : tie.Need-slice-bounds-rest-end
-part-rest-end c = search rules
+slice_bounds-rest-end : tie.Need-slice_bounds-rest-end
+slice_bounds-rest-end c = search rules
 
-ordinary-front-requires : tie.Need-ordinary-front-requires
-ordinary-front-requires c κs = tt
+ordinary_front-n-requires : tie.Need-ordinary_front-n-requires
+ordinary_front-n-requires c κs = tt
 
-ends-at-requires : tie.Need-ends-at-requires
-ends-at-requires c κs = search rules
+ends_at-requires : tie.Need-ends_at-requires
+ends_at-requires c κs = search rules
 
 -- the octets from the value on, and the ordinary ones in front
-module _ (c : tie.After-ordinary-front) where
+module _ (c : tie.After-ordinary_front-n) where
   abbrev text : List ℕ
   text = c.before.before.before.args.r.now
 
@@ -44,81 +44,65 @@ module _ (c : tie.After-ordinary-front) where
   rest = take (length text - place.offset) (drop place.offset text)
 
   abbrev front : ℕ
-  front = c.ordinary-front.result
+  front = c.ordinary_front-n.result
 
   front-in : front ≤ length rest
-  front-in = omega (arith, c.ordinary-front.ensures, up_to_fits unusual rest)
+  front-in = omega (arith, c.ordinary_front-n.ensures, up_to_fits unusual rest)
 
   formed : well_formed [] (take front rest) ≡ true
-  formed = front_formed rest front c.ordinary-front.ensures
+  formed = front_formed rest front c.ordinary_front-n.ensures
 
   front-told : ended (drop front rest) ≡ true → take front rest ≡ value_at place text
-  front-told e = front_value rest front c.ordinary-front.ensures e ∙ value_of text place
+  front-told e = front_value rest front c.ordinary_front-n.ensures e ∙ value_of text place
 
 -- nothing is examined behind them
-abbrev whole : tie.Then1 → tie.After-ordinary-front
+abbrev whole : tie.Then-ends_at → tie.After-ordinary_front-n
 whole c = c.before.before
 
-slice-aggregate-whole : tie.Need-slice-aggregate-whole
-slice-aggregate-whole c = let f = whole c.before in sym (length-take-le (front f) (rest f) (front-in f))
+slice_bounds-whole-end : tie.Need-slice_bounds-whole-end
+slice_bounds-whole-end c = let f = whole c in sym (length-take-le (front f) (rest f) (front-in f))
 
-pattern-start-requires : tie.Need-pattern-start-requires
-pattern-start-requires c κs = tt
+pattern_start-requires : tie.Need-pattern_start-requires
+pattern_start-requires c κs = tt
 
-pattern-at-requires : tie.Need-pattern-at-requires
-pattern-at-requires c κs = c.pattern-start.ensures ∙ sym (formed_readable _ (formed (whole c.before.before)))
+pattern_at-requires : tie.Need-pattern_at-requires
+pattern_at-requires c κs = c.pattern_start.ensures ∙ sym (formed_readable _ (formed (whole c.before)))
 
-returns : tie.Need-returns
-returns c =
+returns-then-ends_at : tie.Need-returns-then-ends_at
+returns-then-ends_at c =
     let t = c.before.before.before in
-    c.pattern-at.ensures ∙ ap (pattern_at (place (whole t))) (front-told (whole t) (sym t.before.ends_at.ensures ∙ t.if1.true))
+    c.pattern_at.ensures ∙ ap (pattern_at (place (whole t))) (front-told (whole t) (sym t.before.ends_at.ensures ∙ t.if-ends_at.true))
 
-value-length-requires : tie.Need-value-length-requires
-value-length-requires c κs = search rules
+value_length-end-requires : tie.Need-value_length-end-requires
+value_length-end-requires c κs = search rules
 
 -- something is
-module _ (c : tie.After-value-length) where
-  abbrev seen : tie.After-ordinary-front
+module _ (c : tie.After-value_length-end) where
+  abbrev seen : tie.After-ordinary_front-n
   seen = c.before.before.before
 
   abbrev size : ℕ
-  size = c.value-length.result
+  size = c.value_length-end.result
 
   size_in : size ≤ length (rest seen)
-  size_in = omega (arith, c.value-length.ensures, value_fits (rest seen))
+  size_in = omega (arith, c.value_length-end.ensures, value_fits (rest seen))
 
   told : take size (rest seen) ≡ value_at (place seen) (text seen)
-  told = value_at_lem (text seen) (place seen) size c.value-length.ensures
+  told = value_at_lem (text seen) (place seen) size c.value_length-end.ensures
 
-slice-aggregate-value : tie.Need-slice-aggregate-value
-slice-aggregate-value c = sym (length-take-le (size c.before) (rest (seen c.before)) (size_in c.before))
+slice_bounds-value-end : tie.Need-slice_bounds-value-end
+slice_bounds-value-end c = sym (length-take-le (size c) (rest (seen c.before)) (size_in c.before))
 
-readable-pattern-requires : tie.Need-readable-pattern-requires
-readable-pattern-requires c κs = tt
+readable_pattern-requires : tie.Need-readable_pattern-requires
+readable_pattern-requires c κs = tt
 
-pattern-at-requires-2 : tie.Need-pattern-at-requires-2
-pattern-at-requires-2 c κs = c.readable-pattern.ensures
+pattern_at-requires-2 : tie.Need-pattern_at-requires-2
+pattern_at-requires-2 c κs = c.readable_pattern.ensures
 
-returns-2 : tie.Need-returns-2
-returns-2 c =
+returns : tie.Need-returns
+returns c =
     let v = c.before.before.before in
-    c.pattern-at2.ensures ∙ ap (pattern_at (place (seen v))) (told v)
+    c.pattern_at-2.ensures ∙ ap (pattern_at (place (seen v))) (told v)
 
-pub pattern-of-spec : {M : Type 1} → statement M
-pattern-of-spec =
-    tie.close
-    (tie.spec
-    sub-rest
-    part-rest-start
-    part-rest-end
-    ordinary-front-requires
-    ends-at-requires
-    slice-aggregate-whole
-    pattern-start-requires
-    pattern-at-requires
-    returns
-    value-length-requires
-    slice-aggregate-value
-    readable-pattern-requires
-    pattern-at-requires-2
-    returns-2)
+pub pattern_of_spec : {M : Type 1} → statement M
+pattern_of_spec = tie.close (tie.spec slice_bounds-rest-count slice_bounds-rest-start slice_bounds-rest-end ordinary_front-n-requires ends_at-requires slice_bounds-whole-end pattern_start-requires pattern_at-requires returns-then-ends_at value_length-end-requires slice_bounds-value-end readable_pattern-requires pattern_at-requires-2 returns)

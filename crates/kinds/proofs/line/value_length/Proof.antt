@@ -12,23 +12,22 @@ use Rattle.protocol.specs.Classes.{stop}
 use Rattle.kinds.proofs.line.value_length.Statement.{statement}
 use Rattle.kinds.proofs.line.value_length.Tie as tie
 
-scan-requires : tie.Need-scan-requires
-scan-requires c κs = search rules
+scan-end-requires : tie.Need-scan-end-requires
+scan-end-requires c κs = search rules
 
-slice-aggregate-trimmed-length : tie.Need-slice-aggregate-trimmed-length
-slice-aggregate-trimmed-length c =
-    let s = c.before.before.before.args.s.now in
-    sym (length-take-le c.before.scan.result s (omega (arith, c.before.scan.ensures, up_to_fits stop s)))
+slice_bounds-trimmed_length-end : tie.Need-slice_bounds-trimmed_length-end
+slice_bounds-trimmed_length-end c =
+    let s = c.before.before.args.s.now in
+    sym (length-take-le c.before.scan-end.result s (omega (arith, c.before.scan-end.ensures, up_to_fits stop s)))
 
-trimmed-length-requires : tie.Need-trimmed-length-requires
-trimmed-length-requires c κs = search rules
+trimmed_length-requires : tie.Need-trimmed_length-requires
+trimmed_length-requires c κs = search rules
 
 returns : tie.Need-returns
 returns c =
-    let s : List ℕ = c.before.before.before.before.args.s.now in
-    c.trimmed-length.ensures
-    ∙ ap (λ (l : List ℕ). length (trim_end l)) (ap (λ (n : ℕ). take n s) c.before.before.scan.ensures ∙ take_up_to stop s)
+    let s : List ℕ = c.before.before.before.args.s.now in
+    c.trimmed_length.ensures
+    ∙ ap (λ (l : List ℕ). length (trim_end l)) (ap (λ (n : ℕ). take n s) c.before.before.scan-end.ensures ∙ take_up_to stop s)
 
-pub value-length-spec : {M : Type 1} → statement M
-value-length-spec =
-    tie.close (tie.spec scan-requires slice-aggregate-trimmed-length trimmed-length-requires returns)
+pub value_length_spec : {M : Type 1} → statement M
+value_length_spec = tie.close (tie.spec scan-end-requires slice_bounds-trimmed_length-end trimmed_length-requires returns)

@@ -3,7 +3,6 @@ use Prim.Native.Nat.{ℕ, ◌+◌, ◌-◌, ◌≤◌}
 use mathlib.Core.Path.{◌≡◌, sym, ap, ◌∙◌}
 use mathlib.Core.Bool.{Bool}
 use mathlib.Core.List.{List, zip}
-use mathlib.Core.Logic.{⊎_elim}
 use native.Mathlib.Omega.{arith}
 use lib.ListN.{length, drop, get_or}
 use Rattle.lists.specs.Choice.{one_if}
@@ -12,6 +11,7 @@ use Rattle.lines.specs.Skips.{closes, endings}
 use Rattle.lines.proofs.Pairs.{zip_length}
 use Rattle.lines.proofs.Skips.{endings_next, endings_end}
 use Rattle.lines.proofs.skip.few_endings.Statement.{statement}
+use Rattle.lines.proofs.skip.few_endings.Lts.{then-closes_line, else-closes_line}
 use Rattle.lines.proofs.skip.few_endings.Tie as tie
 
 abbrev invariant-loop-i : tie.invariant-loop-i
@@ -55,10 +55,13 @@ module _ (c : tie.Joined-closes_line invariant-loop-i decreases-loop-i) where
   closed-here : c.if-closes_line.ends ≡ one_if closing
   closed-here =
       let told = sym c.before.closes_line.ensures in
-      ⊎_elim (λ v. v.1 ∙ sym (ap one_if (told ∙ v.0.taken))) (λ v. v.1 ∙ sym (ap one_if (told ∙ v.0.left))) c.if-closes_line.branch
+      elim c.if-closes_line.branch [
+        then-closes_line v ↦ v.ends-is ∙ sym (ap one_if (told ∙ v.if-closes_line.true))
+        | else-closes_line v ↦ v.ends-is ∙ sym (ap one_if (told ∙ v.if-closes_line.false))
+      ]
 
   few : c.if-closes_line.ends ≤ 1
-  few = ⊎_elim (λ v. omega (arith, v.1)) (λ v. omega (arith, v.1)) c.if-closes_line.branch
+  few = elim c.if-closes_line.branch [ then-closes_line v ↦ omega (arith, v.ends-is) | else-closes_line v ↦ omega (arith, v.ends-is) ]
 
 overflow_add-n : tie.Need-overflow_add-n invariant-loop-i decreases-loop-i
 overflow_add-n c = omega (arith, few c.before, (turn c.before).loop-i.invariant.1)

@@ -3,7 +3,6 @@ use Prim.Native.Nat.{◌+◌, ◌-◌, ◌≤◌, min}
 use mathlib.Core.Path.{◌≡◌, sym, ap₂, ◌∙◌}
 use mathlib.Core.Bool.{◌&&◌}
 use mathlib.Core.List.{zip}
-use mathlib.Core.Logic.{⊎_elim}
 use native.Mathlib.Omega.{arith}
 use lib.ListN.{drop}
 use Rattle.lists.proofs.Scans.{up_to_fits}
@@ -11,6 +10,7 @@ use Rattle.lines.specs.Skips.{agent_octet, opens, agent_front}
 use Rattle.lines.proofs.Pairs.{zip_length, zip_next}
 use Rattle.lines.proofs.Skips.{front_here, front_on}
 use Rattle.lines.proofs.skip.front_agent.Statement.{statement}
+use Rattle.lines.proofs.skip.front_agent.Lts.{then-ends_line-may_begin, else-ends_line-may_begin, then-here-first, else-here-first}
 use Rattle.lines.proofs.skip.front_agent.Tie as tie
 
 abbrev invariant-loop-i : tie.invariant-loop-i
@@ -55,14 +55,20 @@ loop-i-preserved c =
     let a = l.before.before.before.args in
     let told = sym (ap₂ ◌&&◌ e.ends_line.ensures m.may_begin.ensures) in
     let next = zip_next a.b.now a.behind.now l.loop-i.i (omega arith) (omega arith) in
-    ⊎_elim
-    (λ v.
-    let here = front_here next (told ∙ v.0.taken) in
-    ⊎_elim (λ w. omega (arith, here, l.loop-i.invariant.2)) (λ w. omega (arith, here, l.loop-i.invariant.2)) c.if-here-first.branch)
-    (λ v.
-    let on = front_on next (told ∙ v.0.left) in
-    ⊎_elim (λ w. omega (arith, on, l.loop-i.invariant.2)) (λ w. omega (arith, on, l.loop-i.invariant.2)) c.if-here-first.branch)
-    c.before.if-ends_line-may_begin.branch
+    elim c.before.if-ends_line-may_begin.branch [
+      then-ends_line-may_begin v ↦
+        let here = front_here next (told ∙ v.if-ends_line-may_begin.true) in
+        elim c.if-here-first.branch [
+          then-here-first w ↦ omega (arith, here, l.loop-i.invariant.2)
+          | else-here-first w ↦ omega (arith, here, l.loop-i.invariant.2)
+        ]
+      | else-ends_line-may_begin v ↦
+        let on = front_on next (told ∙ v.if-ends_line-may_begin.false) in
+        elim c.if-here-first.branch [
+          then-here-first w ↦ omega (arith, on, l.loop-i.invariant.2)
+          | else-here-first w ↦ omega (arith, on, l.loop-i.invariant.2)
+        ]
+    ]
 
 overflow_cast-result : tie.Need-overflow_cast-result invariant-loop-i decreases-loop-i
 overflow_cast-result c = omega arith

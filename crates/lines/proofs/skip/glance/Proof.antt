@@ -3,7 +3,6 @@ use Prim.Native.Nat.{ℕ, ◌+◌, ◌-◌, ◌≤◌}
 use mathlib.Core.Path.{◌≡◌, refl, sym, ap, ap₂, ◌∙◌}
 use mathlib.Core.Bool.{Bool, true, false, ◌&&◌, ◌||◌, not, or-false, or_assoc}
 use mathlib.Core.List.{List, zip}
-use mathlib.Core.Logic.{⊎_elim}
 use native.Mathlib.Omega.{arith}
 use lib.Bits.{bit_or}
 use lib.Dec.{eqb}
@@ -16,6 +15,7 @@ use Rattle.lines.specs.Skips.{entry_octet, opens, closes, endings}
 use Rattle.lines.proofs.Pairs.{zip_length}
 use Rattle.lines.proofs.Skips.{opens_next, endings_next, endings_end}
 use Rattle.lines.proofs.skip.glance.Statement.{statement}
+use Rattle.lines.proofs.skip.glance.Lts.{then-ends_line-may_begin_entry, else-ends_line-may_begin_entry, then-closes_line, else-closes_line}
 use Rattle.lines.proofs.skip.glance.Tie as tie
 
 abbrev invariant-loop-i : tie.invariant-loop-i
@@ -66,7 +66,10 @@ found_here : (c : tie.Joined-ends_line-may_begin_entry invariant-loop-i decrease
 found_here c =
     let m = c.before in
     let told = sym (ap₂ ◌&&◌ m.before.ends_line.ensures m.may_begin_entry.ensures) in
-    ⊎_elim (λ v. v.1 ∙ sym (ap one_if (told ∙ v.0.taken))) (λ v. v.1 ∙ sym (ap one_if (told ∙ v.0.left))) c.if-ends_line-may_begin_entry.branch
+    elim c.if-ends_line-may_begin_entry.branch [
+      then-ends_line-may_begin_entry v ↦ v.here-is ∙ sym (ap one_if (told ∙ v.if-ends_line-may_begin_entry.true))
+      | else-ends_line-may_begin_entry v ↦ v.here-is ∙ sym (ap one_if (told ∙ v.if-ends_line-may_begin_entry.false))
+    ]
 
 module _ (c : tie.Joined-closes_line invariant-loop-i decreases-loop-i) where
   abbrev turn : tie.At-loop-i invariant-loop-i decreases-loop-i
@@ -75,10 +78,13 @@ module _ (c : tie.Joined-closes_line invariant-loop-i decreases-loop-i) where
   closed-here : c.if-closes_line.ends ≡ one_if (closing turn)
   closed-here =
       let told = sym c.before.closes_line.ensures in
-      ⊎_elim (λ v. v.1 ∙ sym (ap one_if (told ∙ v.0.taken))) (λ v. v.1 ∙ sym (ap one_if (told ∙ v.0.left))) c.if-closes_line.branch
+      elim c.if-closes_line.branch [
+        then-closes_line v ↦ v.ends-is ∙ sym (ap one_if (told ∙ v.if-closes_line.true))
+        | else-closes_line v ↦ v.ends-is ∙ sym (ap one_if (told ∙ v.if-closes_line.false))
+      ]
 
   few : c.if-closes_line.ends ≤ 1
-  few = ⊎_elim (λ v. omega (arith, v.1)) (λ v. omega (arith, v.1)) c.if-closes_line.branch
+  few = elim c.if-closes_line.branch [ then-closes_line v ↦ omega (arith, v.ends-is) | else-closes_line v ↦ omega (arith, v.ends-is) ]
 
 overflow_add-n : tie.Need-overflow_add-n invariant-loop-i decreases-loop-i
 overflow_add-n c = omega (arith, few c.before, (turn c.before).loop-i.invariant.1)

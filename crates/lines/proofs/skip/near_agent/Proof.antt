@@ -3,7 +3,6 @@ use Prim.Native.Nat.{ℕ, ◌+◌, ◌-◌, ◌<◌}
 use mathlib.Core.Path.{◌≡◌, sym, ap, ap₂, ◌∙◌}
 use mathlib.Core.Bool.{Bool, false, ◌&&◌}
 use mathlib.Core.List.{List, ◌∷◌}
-use mathlib.Core.Logic.{⊎_elim}
 use native.Mathlib.Omega.{arith}
 use lib.ListN.{length, drop, get_or}
 use Rattle.lists.proofs.Scans.{scan_none}
@@ -11,6 +10,7 @@ use Rattle.lines.specs.Skips.{agent_octet, pairs, opens, agent_front}
 use Rattle.lines.proofs.Pairs.{pairs_length, pairs_next}
 use Rattle.lines.proofs.Skips.{front_here, front_on}
 use Rattle.lines.proofs.skip.near_agent.Statement.{statement}
+use Rattle.lines.proofs.skip.near_agent.Lts.{then-ends_line+else-may_begin, else-ends_line}
 use Rattle.lines.proofs.skip.near_agent.Tie as tie
 
 abbrev invariant-loop-i : tie.invariant-loop-i
@@ -79,10 +79,10 @@ loop-i-preserved : tie.Need-loop-i-preserved invariant-loop-i decreases-loop-i
 loop-i-preserved c =
     let e = c.before in
     let ended = e.ends_line.ensures in
-    ⊎_elim
-    (λ v. on e (ap₂ ◌&&◌ (sym ended ∙ v.0.taken) (sym v.2.ensures ∙ v.3.left)))
-    (λ v. on e (ap (λ (x : Bool). x && agent_octet (octets e).1) (sym ended ∙ v.left)))
-    c.if-ends_line.branch
+    elim c.if-ends_line.branch [
+      then-ends_line+else-may_begin v ↦ on e (ap₂ ◌&&◌ (sym ended ∙ v.if-ends_line.true) (sym v.may_begin.ensures ∙ v.if-may_begin.false))
+      | else-ends_line v ↦ on e (ap (λ (x : Bool). x && agent_octet (octets e).1) (sym ended ∙ v.if-ends_line.false))
+    ]
 
 returns : tie.Need-returns invariant-loop-i decreases-loop-i
 returns c =
