@@ -3,11 +3,11 @@ use borrow.Author.Rules.{rules}
 use Rattle.walk.proofs.is_last.Statement.{statement}
 use Rattle.walk.proofs.is_last.Tie as tie
 
-returns : tie.Need-returns
-returns c = rw c.if1.true
+returns-then-anchored : tie.Need-returns-then-anchored
+returns-then-anchored c = rw c.if-anchored.true
 
-returns-2 : tie.Need-returns-2
-returns-2 c = search rules
+returns-else-anchored : tie.Need-returns-else-anchored
+returns-else-anchored c = search rules
 
-pub is-last-spec : {M : Type 1} → statement M
-is-last-spec = tie.close (tie.spec returns returns-2)
+pub is_last_spec : {M : Type 1} → statement M
+is_last_spec = tie.close (tie.spec returns-then-anchored returns-else-anchored)

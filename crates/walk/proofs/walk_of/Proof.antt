@@ -16,13 +16,13 @@ use Rattle.walk.proofs.Literal.{literal_walk, front_whole}
 use Rattle.walk.proofs.walk_of.Statement.{statement}
 use Rattle.walk.proofs.walk_of.Tie as tie
 
-literal-front-requires : tie.Need-literal-front-requires
-literal-front-requires c κs = search rules
+literal_front-requires : tie.Need-literal_front-requires
+literal_front-requires c κs = search rules
 
-first-run-requires : tie.Need-first-run-requires
-first-run-requires c κs = search rules
+first_run-requires : tie.Need-first_run-requires
+first_run-requires c κs = search rules
 
-module _ (c : tie.After-literal-front) where
+module _ (c : tie.After-literal_front) where
   abbrev start : tie.Start
   start = c.before.before.before.before
 
@@ -30,39 +30,31 @@ module _ (c : tie.After-literal-front) where
   pattern = start.args.pattern.now
 
   -- whether the literal octets in front are all there are
-  whole : eqb c.literal-front.result (length pattern) ≡ all literal pattern
-  whole = front_whole pattern _ c.literal-front.ensures
+  whole : eqb c.literal_front.result (length pattern) ≡ all literal pattern
+  whole = front_whole pattern _ c.literal_front.ensures
 
-returns : tie.Need-returns
+returns-then-literal_front-pattern : tie.Need-returns-then-literal_front-pattern
 unfolding scratch_of shape_in
-returns c =
+returns-then-literal_front-pattern c =
     let t = c.before in
     let f = t.before in
-    let h : all literal (pattern f) ≡ true = sym (whole f) ∙ eq-eqb _ _ t.if1.true in
+    let h : all literal (pattern f) ≡ true = sym (whole f) ∙ eq-eqb _ _ t.if-literal_front-pattern.true in
     (c.first_run.ensures ∙ sym (literal_walk (pattern f) h Dialect.Rfc9309 (start f).args.path.now), rw h)
 
-walk-pattern-requires : tie.Need-walk-pattern-requires
-walk-pattern-requires c κs = search rules
+walk_pattern-requires : tie.Need-walk_pattern-requires
+walk_pattern-requires c κs = search rules
 
-same_length : tie.Need-same-length
-same_length c = search rules
+shape_of-scratch : tie.Need-shape_of-scratch
+shape_of-scratch c = search rules
 
-returns-2 : tie.Need-returns-2
+returns : tie.Need-returns
 unfolding scratch_of
-returns-2 c =
+returns c =
     let w = c.before.before in
     let e = w.before.before in
     let f = e.before in
-    let h : all literal (pattern f) ≡ false = sym (whole f) ∙ ne_eqb _ _ e.if1.false in
-    (w.walk-pattern.ensures.0, w.walk-pattern.ensures.1 ∙ rw h)
+    let h : all literal (pattern f) ≡ false = sym (whole f) ∙ ne_eqb _ _ e.if-literal_front-pattern.false in
+    (w.walk_pattern.ensures.0, w.walk_pattern.ensures.1 ∙ rw h)
 
-pub walk_of-spec : {M : Type 1} → statement M
-walk_of-spec =
-    tie.close
-    (tie.spec
-    literal-front-requires
-    first-run-requires
-    returns
-    walk-pattern-requires
-    same_length
-    returns-2)
+pub walk_of_spec : {M : Type 1} → statement M
+walk_of_spec = tie.close (tie.spec literal_front-requires first_run-requires returns-then-literal_front-pattern walk_pattern-requires shape_of-scratch returns)

@@ -21,49 +21,49 @@ use Rattle.walk.proofs.Cuts.{RunEnd, run_end, outcome_from, both, outcome, walk_
 use Rattle.walk.proofs.walk_text.Statement.{statement}
 use Rattle.walk.proofs.walk_text.Tie as tie
 
-abbrev invariant-loop : tie.invariant-loop
-invariant-loop text end_mark path scratch₀ end₀ w₀ scratch end w =
+abbrev invariant-loop-end : tie.invariant-loop-end
+invariant-loop-end text end_mark path scratch₀ end₀ w₀ scratch end w =
     (end ≤ length text)
     × (w.past ≤ length path)
     × (length scratch ≡ length scratch₀)
     × (end < length text → is_star (get_or text end 0) ≡ true)
     × (outcome_from end_mark (drop end text) path w scratch ≡ outcome_from end_mark (drop end₀ text) path w₀ scratch₀)
 
-abbrev decreases-loop : tie.decreases-loop
-decreases-loop text end_mark path scratch₀ end₀ w₀ scratch end w = length text - end
+abbrev decreases-loop-end : tie.decreases-loop-end
+decreases-loop-end text end_mark path scratch₀ end₀ w₀ scratch end w = length text - end
 
-find-requires : tie.Need-find-requires invariant-loop decreases-loop
-find-requires c κs = tt
+find-end-requires : tie.Need-find-end-requires invariant-loop-end decreases-loop-end
+find-end-requires c κs = tt
 
-module _ (c : tie.After-find invariant-loop decreases-loop) where
-  abbrev entry : tie.Start invariant-loop decreases-loop
+module _ (c : tie.After-find-end invariant-loop-end decreases-loop-end) where
+  abbrev entry : tie.Start invariant-loop-end decreases-loop-end
   entry = c.before.before.before.before
 
   -- the first run's end
-  opened : RunEnd entry.args.text.now 0 c.find.result
+  opened : RunEnd entry.args.text.now 0 c.find-end.result
   unfolding first_run
-  opened = run_end entry.args.text.now 0 c.find.result (omega arith) (c.find.ensures ∙ sym (zero-add _))
+  opened = run_end entry.args.text.now 0 c.find-end.result (omega arith) (c.find-end.ensures ∙ sym (zero-add _))
 
-slice-aggregate-first-raw : tie.Need-slice-aggregate-first-raw invariant-loop decreases-loop
-slice-aggregate-first-raw c = sym (length-take-le _ _ (opened c.before).within)
+slice_bounds-first_raw-end : tie.Need-slice_bounds-first_raw-end invariant-loop-end decreases-loop-end
+slice_bounds-first_raw-end c = sym (length-take-le _ _ (opened c.before).within)
 
-is-last-requires : tie.Need-is-last-requires invariant-loop decreases-loop
-is-last-requires c κs = tt
+is_last-requires : tie.Need-is_last-requires invariant-loop-end decreases-loop-end
+is_last-requires c κs = tt
 
-first-raw-requires : tie.Need-first-raw-requires invariant-loop decreases-loop
-first-raw-requires c κs = (entry c.before.before.before).pre.0
+first_raw-w-requires : tie.Need-first_raw-w-requires invariant-loop-end decreases-loop-end
+first_raw-w-requires c κs = (entry c.before.before.before).requires.0
 
-loop-holds : tie.Need-loop-init invariant-loop decreases-loop
-loop-holds c =
+loop-end-init : tie.Need-loop-end-init invariant-loop-end decreases-loop-end
+loop-end-init c =
     let r = c.before.before in
     let o = opened r.before.before.before.before in
-    (o.within, rw r.first-raw.ensures.0 (first_within _ _ _), refl, o.stop, refl)
+    (o.within, rw r.first_raw-w.ensures.0 (first_within _ _ _), refl, o.stop, refl)
 
-module _ (c : tie.At-loop invariant-loop decreases-loop) where
-  abbrev walked : tie.After-first-raw invariant-loop decreases-loop
+module _ (c : tie.At-loop-end invariant-loop-end decreases-loop-end) where
+  abbrev walked : tie.After-first_raw-w invariant-loop-end decreases-loop-end
   walked = c.before.before.before
 
-  abbrev start : tie.Start invariant-loop decreases-loop
+  abbrev start : tie.Start invariant-loop-end decreases-loop-end
   start = entry walked.before.before.before.before
 
   abbrev text : List ℕ
@@ -76,48 +76,48 @@ module _ (c : tie.At-loop invariant-loop decreases-loop) where
   end_mark = start.args.anchored
 
   -- the scratch keeps its length
-  same : length c.loop.scratch ≡ length start.args.scratch.now
-  same = c.loop.invariant.2 ∙ walked.first-raw.kept.1.1.1.1.0
+  same : length c.loop-end.scratch ≡ length start.args.scratch.now
+  same = c.loop-end.invariant.2 ∙ walked.first_raw-w.kept.1.1.1.1.0
 
   -- what is left gives the whole
-  gives : outcome_from end_mark (drop c.loop.end text) path c.loop.w c.loop.scratch ≡ outcome end_mark text path start.args.scratch.now
+  gives : outcome_from end_mark (drop c.loop-end.end text) path c.loop-end.w c.loop-end.scratch ≡ outcome end_mark text path start.args.scratch.now
   gives =
       let i = walked.before.before in
-      let r = walked.first-raw in
-      c.loop.invariant.4 ∙ walk_start end_mark text path _ i.is_last.result r.result _ _ (opened i.before.before) i.is_last.ensures r.ensures.0 r.ensures.1
+      let r = walked.first_raw-w in
+      c.loop-end.invariant.4 ∙ walk_start end_mark text path _ i.is_last.result r.result _ _ (opened i.before.before) i.is_last.ensures r.ensures.0 r.ensures.1
 
-same_length : tie.Need-same-length invariant-loop decreases-loop
-same_length c = same c.before.before.before
+shape_of-scratch-then-not-w : tie.Need-shape_of-scratch-then-not-w invariant-loop-end decreases-loop-end
+shape_of-scratch-then-not-w c = same c.before.before.before
 
-returns : tie.Need-returns invariant-loop decreases-loop
-returns c =
+returns-then-not-w : tie.Need-returns-then-not-w invariant-loop-end decreases-loop-end
+returns-then-not-w c =
     let s = c.before.before.before in
-    both (sym (walk_kept (end_mark s) (drop s.loop.end (text s)) (path s) s.loop.w s.loop.scratch (not-true _ c.if1.true)) ∙ gives s)
+    both (sym (walk_kept (end_mark s) (drop s.loop-end.end (text s)) (path s) s.loop-end.w s.loop-end.scratch (not-true _ c.if-not-w.true)) ∙ gives s)
 
-add_start : tie.Need-overflow-add-start invariant-loop decreases-loop
-add_start c = omega arith
+overflow_add-start : tie.Need-overflow_add-start invariant-loop-end decreases-loop-end
+overflow_add-start c = omega arith
 
-sub-find : tie.Need-overflow-sub-find invariant-loop decreases-loop
-sub-find c = omega arith
+slice_bounds-find-count : tie.Need-slice_bounds-find-count invariant-loop-end decreases-loop-end
+slice_bounds-find-count c = omega arith
 
-part-find-start : tie.Need-slice-bounds-find-start invariant-loop decreases-loop
-part-find-start c = omega arith
+slice_bounds-find-start : tie.Need-slice_bounds-find-start invariant-loop-end decreases-loop-end
+slice_bounds-find-start c = omega arith
 
-part-find-end : tie.Need-slice-bounds-find-end invariant-loop decreases-loop
-part-find-end c = omega arith
+slice_bounds-find-end : tie.Need-slice_bounds-find-end invariant-loop-end decreases-loop-end
+slice_bounds-find-end c = omega arith
 
-find-requires-2 : tie.Need-find-requires-2 invariant-loop decreases-loop
-find-requires-2 c κs = tt
+find-requires : tie.Need-find-requires invariant-loop-end decreases-loop-end
+find-requires c κs = tt
 
-module _ (c : tie.After-find2 invariant-loop decreases-loop) where
-  abbrev turn : tie.At-loop invariant-loop decreases-loop
+module _ (c : tie.After-find invariant-loop-end decreases-loop-end) where
+  abbrev turn : tie.At-loop-end invariant-loop-end decreases-loop-end
   turn = c.before.before.before.before.before
 
   abbrev from : ℕ
-  from = turn.loop.end + 1
+  from = turn.loop-end.end + 1
 
   abbrev end : ℕ
-  end = from + c.find2.result
+  end = from + c.find.result
 
   abbrev run : List ℕ
   run = take (end - from) (drop from (text turn))
@@ -125,101 +125,75 @@ module _ (c : tie.After-find2 invariant-loop decreases-loop) where
   -- a later run's end
   turned : RunEnd (text turn) from end
   unfolding first_run
-  turned = run_end (text turn) from end (omega arith) (ap (λ (n : ℕ). from + n) (rw (rest_of from (text turn)) at c.find2.ensures))
+  turned = run_end (text turn) from end (omega arith) (ap (λ (n : ℕ). from + n) (rw (rest_of from (text turn)) at c.find.ensures))
 
-  stood : turn.loop.w.stood ≡ true
-  stood = not-false _ c.before.before.if1.false
+  stood : turn.loop-end.w.stood ≡ true
+  stood = not-false _ c.before.before.if-not-w.false
 
   -- one run more, whatever says what became of it
   goes_on : (last : Bool) (v : Walked) (m : List ℕ)
       → last ≡ (end_mark turn && eqb end (length (text turn)))
-      → v ≡ next last (normal_run true run) (path turn) turn.loop.w
-      → m ≡ run_scratch true run turn.loop.scratch
+      → v ≡ next last (normal_run true run) (path turn) turn.loop-end.w
+      → m ≡ run_scratch true run turn.loop-end.scratch
       → outcome_from (end_mark turn) (drop end (text turn)) (path turn) v m
-      ≡ outcome_from (end_mark turn) (drop turn.loop.end (text turn)) (path turn) turn.loop.w turn.loop.scratch
+      ≡ outcome_from (end_mark turn) (drop turn.loop-end.end (text turn)) (path turn) turn.loop-end.w turn.loop-end.scratch
   goes_on last v m =
-      let l : turn.loop.end < length (text turn) = omega arith in
-      walk_turn (end_mark turn) (text turn) (path turn) turn.loop.end end last turn.loop.w v turn.loop.scratch m l (turn.loop.inv.3 l) stood turned
+      let l : turn.loop-end.end < length (text turn) = omega arith in
+      walk_turn (end_mark turn) (text turn) (path turn) turn.loop-end.end end last turn.loop-end.w v turn.loop-end.scratch m l (turn.loop-end.invariant.3 l) stood turned
 
-add-end : tie.Need-overflow-add-end invariant-loop decreases-loop
-add-end c = omega (arith, (turned c).within)
+overflow_add-end : tie.Need-overflow_add-end invariant-loop-end decreases-loop-end
+overflow_add-end c = omega (arith, (turned c).within)
 
-sub-later-raw : tie.Need-overflow-sub-later-raw invariant-loop decreases-loop
-sub-later-raw c = (turned c).from
+slice_bounds-later_raw-count : tie.Need-slice_bounds-later_raw-count invariant-loop-end decreases-loop-end
+slice_bounds-later_raw-count c = (turned c).from
 
-part-later-raw-start : tie.Need-slice-bounds-later-raw-start invariant-loop decreases-loop
-part-later-raw-start c = (turned c).from
+slice_bounds-later_raw-start : tie.Need-slice_bounds-later_raw-start invariant-loop-end decreases-loop-end
+slice_bounds-later_raw-start c = (turned c).from
 
-part-later-raw-end : tie.Need-slice-bounds-later-raw-end invariant-loop decreases-loop
-part-later-raw-end c = (turned c).within
+slice_bounds-later_raw-end : tie.Need-slice_bounds-later_raw-end invariant-loop-end decreases-loop-end
+slice_bounds-later_raw-end c = (turned c).within
 
-is-last-requires-2 : tie.Need-is-last-requires-2 invariant-loop decreases-loop
-is-last-requires-2 c κs = tt
+is_last-requires-in-loop-end : tie.Need-is_last-requires-in-loop-end invariant-loop-end decreases-loop-end
+is_last-requires-in-loop-end c κs = tt
 
-later-raw-requires : tie.Need-later-raw-requires invariant-loop decreases-loop
-later-raw-requires c κs =
-    let i = c.before.is-last2 in
+later_raw-w-requires : tie.Need-later_raw-w-requires invariant-loop-end decreases-loop-end
+later_raw-w-requires c κs =
+    let i = c.before.is_last-in-loop-end in
     let f = c.before.before.before in
     let s = turn f in
-    let v = next i.result (normal_run true (run f)) (path s) s.loop.w in
-    let e = goes_on f i.result v (run_scratch true (run f) s.loop.scratch) i.ensures refl refl ∙ gives s in (
-      omega (arith, same s, (start s).pre.0),
+    let v = next i.result (normal_run true (run f)) (path s) s.loop-end.w in
+    let e = goes_on f i.result v (run_scratch true (run f) s.loop-end.scratch) i.ensures refl refl ∙ gives s in (
+      omega (arith, same s, (start s).requires.0),
       stood f,
-      s.loop.inv.1,
-      omega (arith, (start s).pre.1, (later_costs (end_mark s) (runs_of (drop (end f) (text s))) (path s) v).0, ap (λ (w : Walked). w.count) (both e).0),
+      s.loop-end.invariant.1,
+      omega (arith, (start s).requires.1, (later_costs (end_mark s) (runs_of (drop (end f) (text s))) (path s) v).0, ap (λ (w : Walked). w.count) (both e).0),
     )
 
-abbrev found : tie.After-slice-known3 invariant-loop decreases-loop → tie.After-find2 invariant-loop decreases-loop
+abbrev found : tie.After-slice_known-in-loop-end-1 invariant-loop-end decreases-loop-end → tie.After-find invariant-loop-end decreases-loop-end
 found c = c.before.before.before.before.before.before
 
-loop-less : tie.Need-loop-smaller invariant-loop decreases-loop
-loop-less c = omega (arith, (turned (found c)).from, (turned (found c)).within)
+loop-end-smaller : tie.Need-loop-end-smaller invariant-loop-end decreases-loop-end
+loop-end-smaller c = omega (arith, (turned (found c)).from, (turned (found c)).within)
 
-loop-again : tie.Need-loop-preserved invariant-loop decreases-loop
-loop-again c =
+loop-end-preserved : tie.Need-loop-end-preserved invariant-loop-end decreases-loop-end
+loop-end-preserved c =
     let f = found c in
-    let r = c.before.before.later-raw in
-    let i = c.before.before.before.before.is-last2 in (
+    let r = c.before.before.later_raw-w in
+    let i = c.before.before.before.before.is_last-in-loop-end in (
       (turned f).within,
-      rw r.ensures.0 (next_within _ _ _ _ (turn f).loop.inv.1),
-      r.auto.1.1.1.1.0 ∙ (turn f).loop.inv.2,
+      rw r.ensures.0 (next_within _ _ _ _ (turn f).loop-end.invariant.1),
+      r.auto.1.1.1.1.0 ∙ (turn f).loop-end.invariant.2,
       (turned f).stop,
-      goes_on f i.result r.result r.new.1.1.1.1.0 i.ensures r.ensures.0 r.ensures.1 ∙ (turn f).loop.inv.4,
+      goes_on f i.result r.result r.new.1.1.1.1.0 i.ensures r.ensures.0 r.ensures.1 ∙ (turn f).loop-end.invariant.4,
     )
 
-same-length-2 : tie.Need-same-length-2 invariant-loop decreases-loop
-same-length-2 c = same c.before
+shape_of-scratch : tie.Need-shape_of-scratch invariant-loop-end decreases-loop-end
+shape_of-scratch c = same c.before
 
-returns-2 : tie.Need-returns-2 invariant-loop decreases-loop
-returns-2 c =
+returns : tie.Need-returns invariant-loop-end decreases-loop-end
+returns c =
     let s = c.before in
-    both (sym (walk_over (end_mark s) (text s) (path s) s.loop.end s.loop.w s.loop.scratch c.loop-test.false) ∙ gives s)
+    both (sym (walk_over (end_mark s) (text s) (path s) s.loop-end.end s.loop-end.w s.loop-end.scratch c.loop-end-test.false) ∙ gives s)
 
-pub walk-text-spec : {M : Type 1} → statement M
-walk-text-spec =
-    tie.close
-    (tie.spec
-    invariant-loop
-    decreases-loop
-    find-requires
-    slice-aggregate-first-raw
-    is-last-requires
-    first-raw-requires
-    loop-holds
-    same_length
-    returns
-    add_start
-    sub-find
-    part-find-start
-    part-find-end
-    find-requires-2
-    add-end
-    sub-later-raw
-    part-later-raw-start
-    part-later-raw-end
-    is-last-requires-2
-    later-raw-requires
-    loop-less
-    loop-again
-    same-length-2
-    returns-2)
+pub walk_text_spec : {M : Type 1} → statement M
+walk_text_spec = tie.close (tie.spec invariant-loop-end decreases-loop-end find-end-requires slice_bounds-first_raw-end is_last-requires first_raw-w-requires loop-end-init shape_of-scratch-then-not-w returns-then-not-w overflow_add-start slice_bounds-find-count slice_bounds-find-start slice_bounds-find-end find-requires overflow_add-end slice_bounds-later_raw-count slice_bounds-later_raw-start slice_bounds-later_raw-end is_last-requires-in-loop-end later_raw-w-requires loop-end-smaller loop-end-preserved shape_of-scratch returns)

@@ -6,22 +6,21 @@ use Rattle.walk.proofs.Weighing.{weighed_plain}
 use Rattle.walk.proofs.weigh_plain.Statement.{statement}
 use Rattle.walk.proofs.weigh_plain.Tie as tie
 
-first-raw-requires : tie.Need-first-raw-requires
-first-raw-requires c κs = search rules
+first_raw-w-requires : tie.Need-first_raw-w-requires
+first_raw-w-requires c κs = search rules
 
-weighed-walk-requires : tie.Need-weighed-walk-requires
-weighed-walk-requires c κs = search rules
+weighed_walk-requires : tie.Need-weighed_walk-requires
+weighed_walk-requires c κs = search rules
 
-same_length : tie.Need-same-length
-same_length c = search rules
+shape_of-scratch : tie.Need-shape_of-scratch
+shape_of-scratch c = search rules
 
 returns : tie.Need-returns
 unfolding normal_path
 returns c =
     let w = c.before.before.before in
     let a = w.before.before.before.before.before.args in
-    (c.weighed-walk.ensures ∙ weighed_plain a.pattern.now a.path.now _ w.first-raw.ensures.0, w.first-raw.ensures.1)
+    (c.weighed_walk.ensures ∙ weighed_plain a.pattern.now a.path.now _ w.first_raw-w.ensures.0, w.first_raw-w.ensures.1)
 
-pub weigh-plain-spec : {M : Type 1} → statement M
-weigh-plain-spec =
-    tie.close (tie.spec first-raw-requires weighed-walk-requires same_length returns)
+pub weigh_plain_spec : {M : Type 1} → statement M
+weigh_plain_spec = tie.close (tie.spec first_raw-w-requires weighed_walk-requires shape_of-scratch returns)

@@ -7,50 +7,40 @@ use Rattle.walk.proofs.Weighing.{weighed_not_found, weighed_found}
 use Rattle.walk.proofs.weigh_starred.Statement.{statement}
 use Rattle.walk.proofs.weigh_starred.Tie as tie
 
-walk-pattern-requires : tie.Need-walk-pattern-requires
-walk-pattern-requires c κs = search rules
+walk_pattern-w-requires : tie.Need-walk_pattern-w-requires
+walk_pattern-w-requires c κs = search rules
 
-weight-of-requires : tie.Need-weight-of-requires
-weight-of-requires c κs = search rules
+weight_of-requires : tie.Need-weight_of-requires
+weight_of-requires c κs = search rules
 
-weighed-walk-requires : tie.Need-weighed-walk-requires
-weighed-walk-requires c κs = search rules
+weighed_walk-requires : tie.Need-weighed_walk-requires
+weighed_walk-requires c κs = search rules
 
-same_length : tie.Need-same-length
-same_length c = search rules
+shape_of-scratch-then-w : tie.Need-shape_of-scratch-then-w
+shape_of-scratch-then-w c = search rules
 
-abbrev entry : tie.After-walk-pattern → tie.Start
+abbrev entry : tie.After-walk_pattern-w → tie.Start
 entry c = c.before.before.before.before.before
+
+returns-then-w : tie.Need-returns-then-w
+unfolding shape_in
+returns-then-w c =
+    let w = c.before.before.before.before.before in
+    let a = (entry w).args in
+    (c.weighed_walk.ensures ∙ weighed_found Dialect.Rfc9309 a.pattern.now a.path.now _ w.walk_pattern-w.ensures.0 _ c.before.weight_of.ensures, w.walk_pattern-w.ensures.1)
+
+weighed_walk-requires-2 : tie.Need-weighed_walk-requires-2
+weighed_walk-requires-2 c κs = search rules
+
+shape_of-scratch : tie.Need-shape_of-scratch
+shape_of-scratch c = search rules
 
 returns : tie.Need-returns
 unfolding shape_in
 returns c =
-    let w = c.before.before.before.before.before in
-    let a = (entry w).args in
-    (c.weighed-walk.ensures ∙ weighed_found Dialect.Rfc9309 a.pattern.now a.path.now _ w.walk-pattern.ensures.0 _ c.before.weight-of.ensures, w.walk-pattern.ensures.1)
-
-weighed-walk-requires-2 : tie.Need-weighed-walk-requires-2
-weighed-walk-requires-2 c κs = search rules
-
-same-length-2 : tie.Need-same-length-2
-same-length-2 c = search rules
-
-returns-2 : tie.Need-returns-2
-unfolding shape_in
-returns-2 c =
     let w = c.before.before.before.before in
     let a = (entry w).args in
-    (c.weighed-walk2.ensures ∙ weighed_not_found Dialect.Rfc9309 a.pattern.now a.path.now _ w.walk-pattern.ensures.0 c.before.if1.false, w.walk-pattern.ensures.1)
+    (c.weighed_walk-2.ensures ∙ weighed_not_found Dialect.Rfc9309 a.pattern.now a.path.now _ w.walk_pattern-w.ensures.0 c.before.if-w.false, w.walk_pattern-w.ensures.1)
 
-pub weigh-starred-spec : {M : Type 1} → statement M
-weigh-starred-spec =
-    tie.close
-    (tie.spec
-    walk-pattern-requires
-    weight-of-requires
-    weighed-walk-requires
-    same_length
-    returns
-    weighed-walk-requires-2
-    same-length-2
-    returns-2)
+pub weigh_starred_spec : {M : Type 1} → statement M
+weigh_starred_spec = tie.close (tie.spec walk_pattern-w-requires weight_of-requires weighed_walk-requires shape_of-scratch-then-w returns-then-w weighed_walk-requires-2 shape_of-scratch returns)

@@ -2,11 +2,11 @@
 use Rattle.walk.proofs.weighed_walk.Statement.{statement}
 use Rattle.walk.proofs.weighed_walk.Tie as tie
 
+returns-then-w : tie.Need-returns-then-w
+returns-then-w c = rw c.if-w.true
+
 returns : tie.Need-returns
-returns c = rw c.if1.true
+returns c = rw c.if-w.false
 
-returns-2 : tie.Need-returns-2
-returns-2 c = rw c.if1.false
-
-pub weighed-walk-spec : {M : Type 1} → statement M
-weighed-walk-spec = tie.close (tie.spec returns returns-2)
+pub weighed_walk_spec : {M : Type 1} → statement M
+weighed_walk_spec = tie.close (tie.spec returns-then-w returns)

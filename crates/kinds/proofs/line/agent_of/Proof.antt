@@ -46,13 +46,13 @@ module _ (c : tie.After-value_length-end) where
   told = value_at_lem text value size c.value_length-end.ensures
 
 slice_bounds-agent_at-end : tie.Need-slice_bounds-agent_at-end
-slice_bounds-agent_at-end c = sym (length-take-le (size c) (rest c.before) (size_in c.before))
+slice_bounds-agent_at-end c = sym (length-take-le (size c) (rest c) (size_in c))
 
 agent_at-requires : tie.Need-agent_at-requires
 agent_at-requires c κs = search rules
 
 returns : tie.Need-returns
-returns c = c.agent_at.ensures ∙ ap (agent_at (value c.before)) (told c.before.before)
+returns c = c.agent_at.ensures ∙ ap (agent_at (value c.before)) (told c.before)
 
 pub agent_of_spec : {M : Type 1} → statement M
 agent_of_spec = tie.close (tie.spec slice_bounds-rest-count slice_bounds-rest-start slice_bounds-rest-end value_length-end-requires slice_bounds-agent_at-end agent_at-requires returns)

@@ -91,7 +91,7 @@ module _ (c : tie.After-value_length-end) where
   told = value_at_lem (text seen) (place seen) size c.value_length-end.ensures
 
 slice_bounds-value-end : tie.Need-slice_bounds-value-end
-slice_bounds-value-end c = sym (length-take-le (size c) (rest (seen c.before)) (size_in c.before))
+slice_bounds-value-end c = sym (length-take-le (size c) (rest (seen c)) (size_in c))
 
 readable_pattern-requires : tie.Need-readable_pattern-requires
 readable_pattern-requires c κs = tt

@@ -18,7 +18,7 @@ scan-end-requires c κs = search rules
 slice_bounds-trimmed_length-end : tie.Need-slice_bounds-trimmed_length-end
 slice_bounds-trimmed_length-end c =
     let s = c.before.before.args.s.now in
-    sym (length-take-le c.before.scan-end.result s (omega (arith, c.before.scan-end.ensures, up_to_fits stop s)))
+    sym (length-take-le c.scan-end.result s (omega (arith, c.scan-end.ensures, up_to_fits stop s)))
 
 trimmed_length-requires : tie.Need-trimmed_length-requires
 trimmed_length-requires c κs = search rules
@@ -27,7 +27,7 @@ returns : tie.Need-returns
 returns c =
     let s : List ℕ = c.before.before.before.args.s.now in
     c.trimmed_length.ensures
-    ∙ ap (λ (l : List ℕ). length (trim_end l)) (ap (λ (n : ℕ). take n s) c.before.before.scan-end.ensures ∙ take_up_to stop s)
+    ∙ ap (λ (l : List ℕ). length (trim_end l)) (ap (λ (n : ℕ). take n s) c.before.scan-end.ensures ∙ take_up_to stop s)
 
 pub value_length_spec : {M : Type 1} → statement M
 value_length_spec = tie.close (tie.spec scan-end-requires slice_bounds-trimmed_length-end trimmed_length-requires returns)
