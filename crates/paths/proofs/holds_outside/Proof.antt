@@ -2,7 +2,6 @@
 use Prim.Native.Nat.{ℕ, ◌-◌, ◌≤◌}
 use mathlib.Core.Path.{◌≡◌, sym, ◌∙◌}
 use mathlib.Core.Bool.{true}
-use mathlib.Core.Logic.{⊎_elim}
 use mathlib.Core.List.{List}
 use native.Mathlib.Omega.{arith}
 use lib.ListN.{length, drop}
@@ -14,6 +13,7 @@ use Rattle.protocol.specs.Refusals.{outside_path}
 use Rattle.words.specs.Words.{among}
 use Rattle.paths.proofs.Refused.{low_outside}
 use Rattle.paths.proofs.holds_outside.Statement.{statement}
+use Rattle.paths.proofs.holds_outside.Lts.{then-path-ge8, else-path-ge8}
 use Rattle.paths.proofs.holds_outside.Tie as tie
 
 abbrev invariant-loop-i : tie.invariant-loop-i
@@ -31,7 +31,10 @@ module _ (c : tie.Joined-path-ge8 invariant-loop-i decreases-loop-i) where
 
   -- no octet up to "#" is passed over
   clear : c.if-path-ge8.i ≤ length (up_to (among 0 35 true) whole)
-  clear = ⊎_elim (λ t. omega (arith, t.2, t.1.ensures)) (λ t. omega (arith, t.1)) c.if-path-ge8.branch
+  clear = elim c.if-path-ge8.branch [
+    then-path-ge8 w ↦ omega (arith, w.i-is, w.clear_front-i.ensures)
+    | else-path-ge8 w ↦ omega (arith, w.i-is)
+  ]
 
 loop-i-init : tie.Need-loop-i-init invariant-loop-i decreases-loop-i
 loop-i-init c =

@@ -24,14 +24,14 @@ unfolding normal_path
 returns-then-fits c =
     let a = c.before.before.before.before.before.args in
     let e = sym c.before.before.before.path_refusal-n.ensures ∙ c.before.before.if-n-ne0.false in
-    sym (room_fits a.room a.path.now e (leb-true _ _ (sym c.fits2.ensures ∙ c.if-fits.true)))
+    sym (room_fits a.room a.path.now e (leb-true _ _ (sym c.fits.ensures ∙ c.if-fits.true)))
 
 returns : tie.Need-returns
 unfolding normal_path
 returns c =
     let a = c.before.before.before.before.before.args in
     let e = sym c.before.before.before.path_refusal-n.ensures ∙ c.before.before.if-n-ne0.false in
-    sym (room_short a.room a.path.now e (leb-false _ _ (sym c.fits2.ensures ∙ c.if-fits.false)))
+    sym (room_short a.room a.path.now e (leb-false _ _ (sym c.fits.ensures ∙ c.if-fits.false)))
 
 pub normalise_refusal_spec : {M : Type 1} → statement M
 normalise_refusal_spec = tie.close (tie.spec path_refusal-n-requires returns-then-n-ne0 fits-requires returns-then-fits returns)

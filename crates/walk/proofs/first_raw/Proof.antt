@@ -60,7 +60,7 @@ shape_of-scratch-in-NoRoom c = search rules
 
 returns-in-NoRoom : tie.Need-returns-in-NoRoom
 returns-in-NoRoom c =
-    let s = c.before.before.before.before.before in
+    let s = c.before.before.before.before in
     let a = (entry s).args in
     let l = run_outgrows a.stars a.run.now a.scratch.now (sym s.normalise_run.ensures.0 ∙ c.before.in-NoRoom.is) in
     (c.fail.ensures ∙ sym (first_short (normal_run a.stars a.run.now) a.path.now a.last (omega (arith, l))), s.normalise_run.ensures.1)

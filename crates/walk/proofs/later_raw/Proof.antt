@@ -65,7 +65,7 @@ shape_of-scratch-in-NoRoom c = search rules
 returns-in-NoRoom : tie.Need-returns-in-NoRoom
 returns-in-NoRoom c =
     let t = c.before in
-    let s = t.before.before.before.before in
+    let s = t.before.before.before in
     let a = (entry s).args in
     let l = run_outgrows true a.run.now a.scratch.now (sym s.normalise_run.ensures.0 ∙ t.in-NoRoom.is) in
     (c.fail.ensures ∙ sym (next_short (normal_run true a.run.now) a.path.now a.w a.last (entry s).requires.1 (omega (arith, l))), s.normalise_run.ensures.1)

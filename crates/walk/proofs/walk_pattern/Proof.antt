@@ -20,7 +20,7 @@ slice_bounds-walk_text-end c = rw (c.text_length-end.ensures, text_front (entry 
 
 walk_text-requires : tie.Need-walk_text-requires
 walk_text-requires c κs =
-    let t = c.before.before in
+    let t = c.before in
     let p = entry t in
     (p.requires.0, rw (pattern_walk p.args.pattern.now p.args.path.now _ t.text_length-end.ensures) (omega (arith, p.requires.1, walk_bound (shape_of p.args.pattern.now) p.args.path.now)))
 
@@ -30,7 +30,7 @@ shape_of-scratch c = search rules
 returns : tie.Need-returns
 returns c =
     let w = c.before.before in
-    let t = w.before.before.before in
+    let t = w.before.before in
     let a = (entry t).args in (
       w.walk_text.ensures.0 ∙ pattern_walk a.pattern.now a.path.now _ t.text_length-end.ensures,
       w.walk_text.ensures.1 ∙ pattern_scratch a.pattern.now a.path.now _ t.text_length-end.ensures a.scratch.now,

@@ -45,18 +45,18 @@ module _ (c : tie.After-find-end invariant-loop-end decreases-loop-end) where
   opened = run_end entry.args.text.now 0 c.find-end.result (omega arith) (c.find-end.ensures ∙ sym (zero-add _))
 
 slice_bounds-first_raw-end : tie.Need-slice_bounds-first_raw-end invariant-loop-end decreases-loop-end
-slice_bounds-first_raw-end c = sym (length-take-le _ _ (opened c.before).within)
+slice_bounds-first_raw-end c = sym (length-take-le _ _ (opened c).within)
 
 is_last-requires : tie.Need-is_last-requires invariant-loop-end decreases-loop-end
 is_last-requires c κs = tt
 
 first_raw-w-requires : tie.Need-first_raw-w-requires invariant-loop-end decreases-loop-end
-first_raw-w-requires c κs = (entry c.before.before.before).requires.0
+first_raw-w-requires c κs = (entry c.before.before).requires.0
 
 loop-end-init : tie.Need-loop-end-init invariant-loop-end decreases-loop-end
 loop-end-init c =
     let r = c.before.before in
-    let o = opened r.before.before.before.before in
+    let o = opened r.before.before.before in
     (o.within, rw r.first_raw-w.ensures.0 (first_within _ _ _), refl, o.stop, refl)
 
 module _ (c : tie.At-loop-end invariant-loop-end decreases-loop-end) where
@@ -64,7 +64,7 @@ module _ (c : tie.At-loop-end invariant-loop-end decreases-loop-end) where
   walked = c.before.before.before
 
   abbrev start : tie.Start invariant-loop-end decreases-loop-end
-  start = entry walked.before.before.before.before
+  start = entry walked.before.before.before
 
   abbrev text : List ℕ
   text = start.args.text.now
@@ -84,7 +84,7 @@ module _ (c : tie.At-loop-end invariant-loop-end decreases-loop-end) where
   gives =
       let i = walked.before.before in
       let r = walked.first_raw-w in
-      c.loop-end.invariant.4 ∙ walk_start end_mark text path _ i.is_last.result r.result _ _ (opened i.before.before) i.is_last.ensures r.ensures.0 r.ensures.1
+      c.loop-end.invariant.4 ∙ walk_start end_mark text path _ i.is_last.result r.result _ _ (opened i.before) i.is_last.ensures r.ensures.0 r.ensures.1
 
 shape_of-scratch-then-not-w : tie.Need-shape_of-scratch-then-not-w invariant-loop-end decreases-loop-end
 shape_of-scratch-then-not-w c = same c.before.before.before

@@ -76,7 +76,7 @@ told-by l k e p q = rw (p, q)
 
 returns-in-Other : tie.Need-returns-in-Other
 returns-in-Other c =
-    let h = c.before.before in
+    let h = c.before in
     let other = c.in-Other.is in
     told-by (text h) Kind.Other (place_at 0)
     (other-entry (kind_of (line_text (text h))) (sym (head_field (text h) (head h) h.head_in-head.ensures) ∙ other))
@@ -122,11 +122,11 @@ module _ (c : tie.After-value_in-told) where
       ap (λ (v : Value). v.ordinary) c.value_in-told.ensures ∙ ap (all ordinary) (value_of (text seen) (head seen).value ∙ sym value_known)
 
 slice_bounds-value-end : tie.Need-slice_bounds-value-end
-slice_bounds-value-end c = let v = c.before in sym (length-take-le (size v) (rest v) (size_in v))
+slice_bounds-value-end c = let v = c in sym (length-take-le (size v) (rest v) (size_in v))
 
 overflow_add-last : tie.Need-overflow_add-last
 overflow_add-last c =
-    let v = c.before.before in
+    let v = c.before in
     omega (arith, size_in v, head-known (seen v), length-take (length (text (seen v)) - start v) (drop (start v) (text (seen v))))
 
 -- where it ends
@@ -145,7 +145,7 @@ agent_at-requires c κs = search rules
 returns-in-Agent : tie.Need-returns-in-Agent
 returns-in-Agent c =
     let t = c.before in
-    let v = t.before.before.before.before in
+    let v = t.before.before.before in
     let h = seen v in
     told-by (text h) _ _
     (ap Kind.Agent (c.agent_at.ensures ∙ ap (agent_at (head h).value) (value_known v))

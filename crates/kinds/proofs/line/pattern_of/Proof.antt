@@ -70,7 +70,7 @@ pattern_at-requires c κs = c.pattern_start.ensures ∙ sym (formed_readable _ (
 
 returns-then-ends_at : tie.Need-returns-then-ends_at
 returns-then-ends_at c =
-    let t = c.before.before.before in
+    let t = c.before.before in
     c.pattern_at.ensures ∙ ap (pattern_at (place (whole t))) (front-told (whole t) (sym t.before.ends_at.ensures ∙ t.if-ends_at.true))
 
 value_length-end-requires : tie.Need-value_length-end-requires
@@ -101,7 +101,7 @@ pattern_at-requires-2 c κs = c.readable_pattern.ensures
 
 returns : tie.Need-returns
 returns c =
-    let v = c.before.before.before in
+    let v = c.before.before in
     c.pattern_at-2.ensures ∙ ap (pattern_at (place (seen v))) (told v)
 
 pub pattern_of_spec : {M : Type 1} → statement M
