@@ -26,16 +26,16 @@ module _ (c : tie.In-Octets) where
   abbrev written : tie.After-normalise_run
   written = c.before.before.before
 
-  fits : Fits (entry written).args.stars (entry written).args.run.now written.normalise_run.last.1.1.0 c.before.in-Octets.n
+  fits : Fits (entry written).args.stars (entry written).args.run.now written.normalise_run.new.scratch c.in-Octets.n
   fits =
       let r = written.normalise_run in
-      run_fits (entry written).args.stars _ (entry written).args.scratch.now _ _ (sym r.ensures.0 ∙ c.before.in-Octets.is) r.ensures.1 r.kept.1.1.0
+      run_fits (entry written).args.stars _ (entry written).args.scratch.now _ _ (sym r.ensures.0 ∙ c.in-Octets.is) r.ensures.1 r.auto.scratch
 
 slice_bounds-first_run-end : tie.Need-slice_bounds-first_run-end
 slice_bounds-first_run-end c = (fits c).room
 
 slice_bounds-first_run-end-in-Octets : tie.Need-slice_bounds-first_run-end-in-Octets
-slice_bounds-first_run-end-in-Octets c = sym (length-take-le _ _ (fits c.before).room)
+slice_bounds-first_run-end-in-Octets c = sym (length-take-le _ _ (fits c).room)
 
 first_run-requires : tie.Need-first_run-requires
 first_run-requires c κs = search rules
@@ -51,7 +51,7 @@ shape_of-scratch-in-Octets c = search rules
 
 returns-in-Octets : tie.Need-returns-in-Octets
 returns-in-Octets c =
-    let t = c.before.before in
+    let t = c.before in
     let a = (entry (written t)).args in
     (c.first_run.ensures ∙ ap (λ (r : List ℕ). first a.last r a.path.now) (fits t).read, (written t).normalise_run.ensures.1)
 

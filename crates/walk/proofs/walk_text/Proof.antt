@@ -77,7 +77,7 @@ module _ (c : tie.At-loop-end invariant-loop-end decreases-loop-end) where
 
   -- the scratch keeps its length
   same : length c.loop-end.scratch ≡ length start.args.scratch.now
-  same = c.loop-end.invariant.2 ∙ walked.first_raw-w.kept.1.1.1.1.0
+  same = c.loop-end.invariant.2 ∙ walked.first_raw-w.auto.scratch
 
   -- what is left gives the whole
   gives : outcome_from end_mark (drop c.loop-end.end text) path c.loop-end.w c.loop-end.scratch ≡ outcome end_mark text path start.args.scratch.now
@@ -182,9 +182,9 @@ loop-end-preserved c =
     let i = c.before.before.before.before.is_last-in-loop-end in (
       (turned f).within,
       rw r.ensures.0 (next_within _ _ _ _ (turn f).loop-end.invariant.1),
-      r.auto.1.1.1.1.0 ∙ (turn f).loop-end.invariant.2,
+      r.auto.scratch ∙ (turn f).loop-end.invariant.2,
       (turned f).stop,
-      goes_on f i.result r.result r.new.1.1.1.1.0 i.ensures r.ensures.0 r.ensures.1 ∙ (turn f).loop-end.invariant.4,
+      goes_on f i.result r.result r.new.scratch i.ensures r.ensures.0 r.ensures.1 ∙ (turn f).loop-end.invariant.4,
     )
 
 shape_of-scratch : tie.Need-shape_of-scratch invariant-loop-end decreases-loop-end

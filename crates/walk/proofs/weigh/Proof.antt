@@ -101,10 +101,11 @@ module _ (c : tie.Else-front-pattern) where
 returns-in-Rfc9309 : tie.Need-returns-in-Rfc9309
 unfolding scratch_in
 returns-in-Rfc9309 c =
-    let o = c.before.before.before.before.before.before in
+    let l = c.before.before.before.before.before in
+    let o = l.before in
     let w = c.before.before.weigh_starred in
     let e : (start o).args.dialect ≡ Dialect.Rfc9309 = c.before.before.before.before.in-Rfc9309.is in
-    (w.ensures.0 ∙ ap (λ (d : Dialect). weighed d (pattern o) (path o)) (sym e), walked o Dialect.Rfc9309 e _ w.ensures.1)
+    (w.ensures.0 ∙ ap (λ (d : Dialect). weighed d (pattern o) (path o)) (sym e), walked l Dialect.Rfc9309 e _ w.ensures.1)
 
 shape_of-scratch-in-Draft1996 : tie.Need-shape_of-scratch-in-Draft1996
 shape_of-scratch-in-Draft1996 c = search rules
@@ -112,10 +113,11 @@ shape_of-scratch-in-Draft1996 c = search rules
 returns-in-Draft1996 : tie.Need-returns-in-Draft1996
 unfolding scratch_in
 returns-in-Draft1996 c =
-    let o = c.before.before.before.before.before.before in
+    let l = c.before.before.before.before.before in
+    let o = l.before in
     let w = c.before.before.weigh_plain in
     let e : (start o).args.dialect ≡ Dialect.Draft1996 = c.before.before.before.before.in-Draft1996.is in
-    (w.ensures.0 ∙ ap (λ (d : Dialect). weighed d (pattern o) (path o)) (sym e), walked o Dialect.Draft1996 e _ w.ensures.1)
+    (w.ensures.0 ∙ ap (λ (d : Dialect). weighed d (pattern o) (path o)) (sym e), walked l Dialect.Draft1996 e _ w.ensures.1)
 
 pub weigh_spec : {M : Type 1} → statement M
 weigh_spec = tie.close (tie.spec literal_front-front-requires fail-requires weighed_walk-requires returns-then-path-front weigh_literal-requires returns-then-front-pattern enum_told-1 weigh_starred-requires enum_told-in-Draft1996 weigh_plain-requires shape_of-scratch-in-Rfc9309 returns-in-Rfc9309 shape_of-scratch-in-Draft1996 returns-in-Draft1996)

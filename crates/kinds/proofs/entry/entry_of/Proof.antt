@@ -168,7 +168,7 @@ returns c =
     let h = seen v in
     told-by (text h) _ _
     (rw (p.side_of-side.ensures, c.pattern_at-pattern.ensures, value_known v)
-    (ap entry_kind (kind_rule (text h) (head h) h.head_in-head.ensures v.before.before.in_default.in_default-own.keys2 p.before.in_default-field.in_default-own.keys2)))
+    (ap entry_kind (kind_rule (text h) (head h) h.head_in-head.ensures v.before.before.in_default.in_default-own.keys2 p.before.in_default-field.in_default-field-own.keys2)))
     (end-told v)
 
 pub entry_of_spec : {M : Type 1} → statement M

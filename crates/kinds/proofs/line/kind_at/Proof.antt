@@ -52,13 +52,13 @@ module _ (c : tie.After-side_of-side) where
   start = c.before.before.before.before
 
   rule : Kind.Rule (side_of (head start).field) (pattern_at (head start).value (value_at (head start).value (text start))) ≡ kind_of (line_text (text start))
-  rule = kind_rule (text start) (head start) start.requires.1 c.before.before.in_default.in_default-own.keys2 c.before.in_default-field.in_default-own.keys2
+  rule = kind_rule (text start) (head start) start.requires.1 c.before.before.in_default.in_default-own.keys2 c.before.in_default-field.in_default-field-own.keys2
 
 pattern_of-requires : tie.Need-pattern_of-requires
 pattern_of-requires c κs = let s = start c.before in (search rules, head_inside (text s) (head s) s.requires.1)
 
 returns : tie.Need-returns
-returns c = rw (c.before.side_of-side.ensures, c.pattern_of.ensures) (rule c.before)
+returns c = rw (c.before.side_of-side.ensures, c.pattern_of.ensures) (rule c.before.before)
 
 pub kind_at_spec : {M : Type 1} → statement M
 kind_at_spec = tie.close (tie.spec enum_told-1 idle_kind-requires returns-in-Other enum_told-in-Agent agent_of-requires returns-in-Agent side_of-side-requires pattern_of-requires returns)
