@@ -5,19 +5,19 @@ use borrow.Author.Rules.{rules}
 use Rattle.considering.proofs.conclude.Statement.{statement}
 use Rattle.considering.proofs.conclude.Tie as tie
 
-decided-as-requires : tie.Need-decided-as-requires
-decided-as-requires c κs = search rules
+decided_as-requires : tie.Need-decided_as-requires
+decided_as-requires c κs = search rules
+
+returns-then-allow-disallow : tie.Need-returns-then-allow-disallow
+unfolding concluded
+returns-then-allow-disallow c = rw (lt-ltb _ _ c.before.if-allow-disallow.true) c.decided_as.ensures
+
+decided_as-requires-2 : tie.Need-decided_as-requires-2
+decided_as-requires-2 c κs = search rules
 
 returns : tie.Need-returns
 unfolding concluded
-returns c = rw (lt-ltb _ _ c.before.if1.true) c.decided-as.ensures
+returns c = rw (le-ltb _ _ c.before.if-allow-disallow.false) c.decided_as-2.ensures
 
-decided-as-requires-2 : tie.Need-decided-as-requires-2
-decided-as-requires-2 c κs = search rules
-
-returns-2 : tie.Need-returns-2
-unfolding concluded
-returns-2 c = rw (le-ltb _ _ c.before.if1.false) c.decided-as2.ensures
-
-pub conclude-spec : {M : Type 1} → statement M
-conclude-spec = tie.close (tie.spec decided-as-requires returns decided-as-requires-2 returns-2)
+pub conclude_spec : {M : Type 1} → statement M
+conclude_spec = tie.close (tie.spec decided_as-requires returns-then-allow-disallow decided_as-requires-2 returns)

@@ -8,25 +8,25 @@ use Rattle.considering.proofs.Rooms.{weight_fits, count_fits, sum_fits}
 use Rattle.considering.proofs.consider.Statement.{statement}
 use Rattle.considering.proofs.consider.Tie as tie
 
-is-settled-requires : tie.Need-is-settled-requires
-is-settled-requires c κs = search rules
+is_settled-requires : tie.Need-is_settled-requires
+is_settled-requires c κs = search rules
 
-abbrev entry : tie.After-is-settled → tie.Start
+abbrev entry : tie.After-is_settled → tie.Start
 entry c = c.before.before.before.before
 
-returns : tie.Need-returns
+returns-then-is_settled : tie.Need-returns-then-is_settled
 unfolding considered
-returns c = (rw (sym c.before.is-settled.ensures ∙ c.if1.true), search rules)
+returns-then-is_settled c = (rw (sym c.before.is_settled.ensures ∙ c.if-is_settled.true), search rules)
 
-weigh-requires : tie.Need-weigh-requires
-weigh-requires c κs =
+weigh-w-requires : tie.Need-weigh-w-requires
+weigh-w-requires c κs =
     let s = entry c.before.before in
     let a = s.args in
-    (s.pre.lent, weight_fits a.dialect a.pattern.now a.path.now a.scratch.now a.c s.pre, count_fits a.dialect a.pattern.now a.path.now a.scratch.now a.c s.pre)
+    (s.requires.lent, weight_fits a.dialect a.pattern.now a.path.now a.scratch.now a.c s.requires, count_fits a.dialect a.pattern.now a.path.now a.scratch.now a.c s.requires)
 
 -- after the walk
-module _ (c : tie.After-weigh) where
-  abbrev settled-not : tie.After-is-settled
+module _ (c : tie.After-weigh-w) where
+  abbrev settled-not : tie.After-is_settled
   settled-not = c.before.before.before
 
   abbrev start : tie.Start
@@ -36,19 +36,17 @@ add-requires : tie.Need-add-requires
 add-requires c κs =
     let w = c.before.before.before.before in
     let a = (start w).args in
-    omega (arith, ap (λ (w : Weighed). w.compared) w.weigh.ensures.0, sum_fits a.dialect a.pattern.now a.path.now a.scratch.now a.c (start w).requires)
+    omega (arith, ap (λ (w : Weighed). w.compared) w.weigh-w.ensures.0, sum_fits a.dialect a.pattern.now a.path.now a.scratch.now a.c (start w).requires)
 
-same_length : tie.Need-same-length
-same_length c = search rules
+shape_of-scratch : tie.Need-shape_of-scratch
+shape_of-scratch c = search rules
 
-returns-2 : tie.Need-returns-2
+returns : tie.Need-returns
 unfolding considered walked_once
-returns-2 c =
+returns c =
     let w = c.before.before.before.before.before in
-    let walks = sym (settled-not w).is-settled.ensures ∙ w.before.before.if1.false in
-    (c.add.ensures ∙ rw (walks, w.weigh.ensures.0), search rules)
+    let walks = sym (settled-not w).is_settled.ensures ∙ w.before.before.if-is_settled.false in
+    (c.add.ensures ∙ rw (walks, w.weigh-w.ensures.0), search rules)
 
-pub consider-spec : {M : Type 1} → statement M
-consider-spec =
-    tie.close
-    (tie.spec is-settled-requires returns weigh-requires add-requires same_length returns-2)
+pub consider_spec : {M : Type 1} → statement M
+consider_spec = tie.close (tie.spec is_settled-requires returns-then-is_settled weigh-w-requires add-requires shape_of-scratch returns)

@@ -11,64 +11,52 @@ use Rattle.listing.proofs.Ends.{decrease_here, decrease_on, decrease_end, last_o
 use Rattle.listing.proofs.are_bad.Statement.{statement}
 use Rattle.listing.proofs.are_bad.Tie as tie
 
-abbrev invariant-loop : tie.invariant-loop
-invariant-loop ends joined last₀ i₀ last i =
+abbrev invariant-loop-i : tie.invariant-loop-i
+invariant-loop-i ends joined last₀ i₀ last i =
     (i ≤ length ends) × (decrease last (drop i ends) ≡ decrease 0 ends) × (last_end last (drop i ends) ≡ last_end 0 ends)
 
-abbrev decreases-loop : tie.decreases-loop
-decreases-loop ends joined last₀ i₀ last i = length ends - i
+abbrev decreases-loop-i : tie.decreases-loop-i
+decreases-loop-i ends joined last₀ i₀ last i = length ends - i
 
-loop-holds : tie.Need-loop-init invariant-loop decreases-loop
-loop-holds c = (omega arith, refl, refl)
+loop-i-init : tie.Need-loop-i-init invariant-loop-i decreases-loop-i
+loop-i-init c = (omega arith, refl, refl)
 
-mul-end : tie.Need-overflow-mul-end invariant-loop decreases-loop
-mul-end c = omega arith
+offset_bounds-ends-i : tie.Need-offset_bounds-ends-i invariant-loop-i decreases-loop-i
+offset_bounds-ends-i c = omega arith
 
-shared-slice-read-end : tie.Need-shared-slice-read-end invariant-loop decreases-loop
-shared-slice-read-end c = omega arith
+bounds-ends-i : tie.Need-bounds-ends-i invariant-loop-i decreases-loop-i
+bounds-ends-i c = omega arith
 
-module _ (c : tie.At-loop invariant-loop decreases-loop) where
+module _ (c : tie.At-loop-i invariant-loop-i decreases-loop-i) where
   abbrev ends : List ℕ
   ends = c.before.args.ends.now
 
-returns : tie.Need-returns invariant-loop decreases-loop
-returns c =
+returns-then-end-last : tie.Need-returns-then-end-last invariant-loop-i decreases-loop-i
+returns-then-end-last c =
     let l = c.before.before.before in
-    let e = sym l.loop.invariant.1 ∙ decrease_here (ends l) l.loop.i l.loop.last (omega arith) c.if1.true in
+    let e = sym l.loop-i.invariant.1 ∙ decrease_here (ends l) l.loop-i.i l.loop-i.last (omega arith) c.if-end-last.true in
     sym (ap (λ (b : Bool). b || not (eqb (last_end 0 (ends l)) l.before.args.joined)) e)
 
-add-i : tie.Need-overflow-add-i invariant-loop decreases-loop
-add-i c = omega arith
+overflow_add-i : tie.Need-overflow_add-i invariant-loop-i decreases-loop-i
+overflow_add-i c = omega arith
 
-loop-less : tie.Need-loop-smaller invariant-loop decreases-loop
-loop-less c = omega arith
+loop-i-smaller : tie.Need-loop-i-smaller invariant-loop-i decreases-loop-i
+loop-i-smaller c = omega arith
 
-loop-again : tie.Need-loop-preserved invariant-loop decreases-loop
-loop-again c =
+loop-i-preserved : tie.Need-loop-i-preserved invariant-loop-i decreases-loop-i
+loop-i-preserved c =
     let l = c.before.before.before in (
       omega arith,
-      sym (decrease_on (ends l) l.loop.i l.loop.last (omega arith) c.if1.false) ∙ l.loop.invariant.1,
-      sym (last_on (ends l) l.loop.i l.loop.last (omega arith)) ∙ l.loop.invariant.2,
+      sym (decrease_on (ends l) l.loop-i.i l.loop-i.last (omega arith) c.if-end-last.false) ∙ l.loop-i.invariant.1,
+      sym (last_on (ends l) l.loop-i.i l.loop-i.last (omega arith)) ∙ l.loop-i.invariant.2,
     )
 
-returns-2 : tie.Need-returns-2 invariant-loop decreases-loop
-returns-2 c =
+returns : tie.Need-returns invariant-loop-i decreases-loop-i
+returns c =
     let l = c.before in
-    let none = sym l.loop.invariant.1 ∙ decrease_end (ends l) l.loop.i l.loop.last c.loop-test.false in
-    let reached = sym l.loop.invariant.2 ∙ last_end_lem (ends l) l.loop.i l.loop.last c.loop-test.false in
+    let none = sym l.loop-i.invariant.1 ∙ decrease_end (ends l) l.loop-i.i l.loop-i.last c.loop-i-test.false in
+    let reached = sym l.loop-i.invariant.2 ∙ last_end_lem (ends l) l.loop-i.i l.loop-i.last c.loop-i-test.false in
     sym (ap₂ (λ (b : Bool) (e : ℕ). b || not (eqb e l.before.args.joined)) none reached)
 
-pub are-bad-spec : {M : Type 1} → statement M
-are-bad-spec =
-    tie.close
-    (tie.spec
-    invariant-loop
-    decreases-loop
-    loop-holds
-    mul-end
-    shared-slice-read-end
-    returns
-    add-i
-    loop-less
-    loop-again
-    returns-2)
+pub are_bad_spec : {M : Type 1} → statement M
+are_bad_spec = tie.close (tie.spec invariant-loop-i decreases-loop-i loop-i-init offset_bounds-ends-i bounds-ends-i returns-then-end-last overflow_add-i loop-i-smaller loop-i-preserved returns)

@@ -27,36 +27,36 @@ module _ (s : tie.Start) where
   abbrev rows : List Row
   rows = unknown_dialect s.args.dialect ∷ too_long file ∷ bad_name name ∷ ends ∷ places ∷ []
 
-abbrev entry : tie.After-shared-slice-known4 → tie.Start
+abbrev entry : tie.After-shared_slice_known-4-1 → tie.Start
 entry c = c.before.before.before.before
 
-returns : tie.Need-returns
-returns c =
+returns-then-dialect-gt1 : tie.Need-returns-then-dialect-gt1
+returns-then-dialect-gt1 c =
     let s = entry c.before in
-    sym (unknown_dialect_lem s.args.dialect (too_long (file s) ∷ bad_name (name s) ∷ ends s ∷ places s ∷ []) (λ z. omega (arith, z, c.if1.true)) (λ z. omega (arith, z, c.if1.true)))
+    sym (unknown_dialect_lem s.args.dialect (too_long (file s) ∷ bad_name (name s) ∷ ends s ∷ places s ∷ []) (λ z. omega (arith, z, c.if-dialect-gt1.true)) (λ z. omega (arith, z, c.if-dialect-gt1.true)))
 
-returns-2 : tie.Need-returns-2
-returns-2 c =
+returns-then-file-gt512000 : tie.Need-returns-then-file-gt512000
+returns-then-file-gt512000 c =
     let d = c.before in
     let s = entry d.before in
-    sym (long_file s.args.dialect (file s) (name s) (ends s ∷ places s ∷ []) d.if1.false c.if2.true)
+    sym (long_file s.args.dialect (file s) (name s) (ends s ∷ places s ∷ []) d.if-dialect-gt1.false c.if-file-gt512000.true)
 
-is-bad-name-requires : tie.Need-is-bad-name-requires
-is-bad-name-requires c κs = search rules
+is_bad_name-requires : tie.Need-is_bad_name-requires
+is_bad_name-requires c κs = search rules
 
-returns-3 : tie.Need-returns-3
-returns-3 c =
+returns-then-is_bad_name : tie.Need-returns-then-is_bad_name
+returns-then-is_bad_name c =
     let f = c.before.before in
     let s = entry f.before.before in
     sym
-    (bad_name_lem s.args.dialect (file s) (name s) (ends s ∷ places s ∷ []) f.before.if1.false f.if2.false (sym c.before.is-bad-name.ensures ∙ c.if3.true))
+    (bad_name_lem s.args.dialect (file s) (name s) (ends s ∷ places s ∷ []) f.before.if-dialect-gt1.false f.if-file-gt512000.false (sym c.before.is_bad_name.ensures ∙ c.if-is_bad_name.true))
 
-are-bad-requires : tie.Need-are-bad-requires
-are-bad-requires c κs = search rules
+are_bad-requires : tie.Need-are_bad-requires
+are_bad-requires c κs = search rules
 
 -- where the name is good
-module _ (c : tie.Else3) where
-  abbrev short : tie.Else2
+module _ (c : tie.Else-is_bad_name) where
+  abbrev short : tie.Else-file-gt512000
   short = c.before.before
 
   abbrev start : tie.Start
@@ -64,39 +64,29 @@ module _ (c : tie.Else3) where
 
   ends-tested : refusal (rows start) ≡ refusal (ends start ∷ places start ∷ [])
   ends-tested =
-      good_name start.args.dialect (file start) (name start) (ends start ∷ places start ∷ []) short.before.if1.left short.if2.left (sym c.before.is-bad-name.ensures ∙ c.if3.false)
+      good_name start.args.dialect (file start) (name start) (ends start ∷ places start ∷ []) short.before.if-dialect-gt1.false short.if-file-gt512000.false (sym c.before.is_bad_name.ensures ∙ c.if-is_bad_name.false)
 
-returns-4 : tie.Need-returns-4
-returns-4 c =
+returns-then-are_bad : tie.Need-returns-then-are_bad
+returns-then-are_bad c =
     let n = c.before.before in
     let s = start n in
-    sym (ends-tested n ∙ refusal_here (ends s) (places s ∷ []) (sym c.before.are-bad.ensures ∙ c.if4.true))
+    sym (ends-tested n ∙ refusal_here (ends s) (places s ∷ []) (sym c.before.are_bad.ensures ∙ c.if-are_bad.true))
 
 -- where the ends are
-module _ (c : tie.Else4) where
+module _ (c : tie.Else-are_bad) where
   abbrev given : tie.Start
   given = start c.before.before
 
   places-tested : refusal (rows given) ≡ refusal (places given ∷ [])
   places-tested =
-      ends-tested c.before.before ∙ refusal_on (ends given) (places given ∷ []) (sym c.before.are-bad.ensures ∙ c.if4.false)
+      ends-tested c.before.before ∙ refusal_on (ends given) (places given ∷ []) (sym c.before.are_bad.ensures ∙ c.if-are_bad.false)
 
-returns-5 : tie.Need-returns-5
-returns-5 c = let e = c.before in sym (places-tested e ∙ refusal_here (places (given e)) [] c.if5.true)
+returns-then-short : tie.Need-returns-then-short
+returns-then-short c = let e = c.before in sym (places-tested e ∙ refusal_here (places (given e)) [] c.if-short.true)
 
-returns-6 : tie.Need-returns-6
+returns : tie.Need-returns
 unfolding refusal
-returns-6 c = let e = c.before in sym (places-tested e ∙ refusal_on (places (given e)) [] c.if5.false)
+returns c = let e = c.before in sym (places-tested e ∙ refusal_on (places (given e)) [] c.if-short.false)
 
-pub call-refusal-spec : {M : Type 1} → statement M
-call-refusal-spec =
-    tie.close
-    (tie.spec
-    returns
-    returns-2
-    is-bad-name-requires
-    returns-3
-    are-bad-requires
-    returns-4
-    returns-5
-    returns-6)
+pub call_refusal_spec : {M : Type 1} → statement M
+call_refusal_spec = tie.close (tie.spec returns-then-dialect-gt1 returns-then-file-gt512000 is_bad_name-requires returns-then-is_bad_name are_bad-requires returns-then-are_bad returns-then-short returns)

@@ -3,18 +3,18 @@ use borrow.Author.Tests.{lt-ltb, le-ltb}
 use Rattle.listing.proofs.is_short.Statement.{statement}
 use Rattle.listing.proofs.is_short.Tie as tie
 
+returns-then-refusals-count : tie.Need-returns-then-refusals-count
+returns-then-refusals-count c = let a = c.before.args in rw (lt-ltb a.refusals a.count c.if-refusals-count.true)
+
+returns-then-sides-count : tie.Need-returns-then-sides-count
+returns-then-sides-count c =
+    let a = c.before.before.args in
+    rw (le-ltb a.refusals a.count c.before.if-refusals-count.false, lt-ltb a.sides a.count c.if-sides-count.true)
+
 returns : tie.Need-returns
-returns c = let a = c.before.args in rw (lt-ltb a.refusals a.count c.if1.true)
-
-returns-2 : tie.Need-returns-2
-returns-2 c =
+returns c =
     let a = c.before.before.args in
-    rw (le-ltb a.refusals a.count c.before.if1.false, lt-ltb a.sides a.count c.if2.true)
+    rw (le-ltb a.refusals a.count c.before.if-refusals-count.false, le-ltb a.sides a.count c.if-sides-count.false)
 
-returns-3 : tie.Need-returns-3
-returns-3 c =
-    let a = c.before.before.args in
-    rw (le-ltb a.refusals a.count c.before.if1.false, le-ltb a.sides a.count c.if2.false)
-
-pub is-short-spec : {M : Type 1} → statement M
-is-short-spec = tie.close (tie.spec returns returns-2 returns-3)
+pub is_short_spec : {M : Type 1} → statement M
+is_short_spec = tie.close (tie.spec returns-then-refusals-count returns-then-sides-count returns)

@@ -6,44 +6,36 @@ use Rattle.matching.proofs.Refusing.{path_refuses, pattern_refuses, none_refuses
 use Rattle.matching.proofs.match_refusal.Statement.{statement}
 use Rattle.matching.proofs.match_refusal.Tie as tie
 
+returns-then-pattern-gt512000 : tie.Need-returns-then-pattern-gt512000
+returns-then-pattern-gt512000 c =
+    let a = c.before.before.before.args in
+    sym (pattern_too_long a.pattern.now a.path.now c.if-pattern-gt512000.true)
+
+path_refusal-n-requires : tie.Need-path_refusal-n-requires
+path_refusal-n-requires c κs = search rules
+
+returns-then-n-ne0 : tie.Need-returns-then-n-ne0
+returns-then-n-ne0 c =
+    let n = c.before.path_refusal-n in
+    let a = c.before.before.before.before.before.args in
+    n.ensures ∙ sym (path_refuses a.pattern.now a.path.now c.before.before.if-pattern-gt512000.false (λ z. c.if-n-ne0.true (n.ensures ∙ z)))
+
+readable_pattern-requires : tie.Need-readable_pattern-requires
+readable_pattern-requires c κs = search rules
+
+returns-then-readable_pattern : tie.Need-returns-then-readable_pattern
+returns-then-readable_pattern c =
+    let r = c.before in
+    let n = r.before.before in
+    let a = n.before.before.before.before.args in
+    sym (none_refuses a.pattern.now a.path.now n.before.if-pattern-gt512000.false (sym n.path_refusal-n.ensures ∙ r.before.if-n-ne0.false) (sym r.readable_pattern.ensures ∙ c.if-readable_pattern.true))
+
 returns : tie.Need-returns
 returns c =
-    let a = c.before.before.before.args in
-    sym (pattern_too_long a.pattern.now a.path.now c.if1.true)
-
-path-refusal-requires : tie.Need-path-refusal-requires
-path-refusal-requires c κs = search rules
-
-returns-2 : tie.Need-returns-2
-returns-2 c =
-    let n = c.before.path-refusal in
-    let a = c.before.before.before.before.before.args in
-    n.ensures ∙ sym (path_refuses a.pattern.now a.path.now c.before.before.if1.false (λ z. c.if2.true (n.ensures ∙ z)))
-
-readable-pattern-requires : tie.Need-readable-pattern-requires
-readable-pattern-requires c κs = search rules
-
-returns-3 : tie.Need-returns-3
-returns-3 c =
     let r = c.before in
     let n = r.before.before in
     let a = n.before.before.before.before.args in
-    sym (none_refuses a.pattern.now a.path.now n.before.if1.false (sym n.path-refusal.ensures ∙ r.before.if2.false) (sym r.readable-pattern.ensures ∙ c.if3.true))
+    sym (pattern_refuses a.pattern.now a.path.now n.before.if-pattern-gt512000.false (sym n.path_refusal-n.ensures ∙ r.before.if-n-ne0.false) (sym r.readable_pattern.ensures ∙ c.if-readable_pattern.false))
 
-returns-4 : tie.Need-returns-4
-returns-4 c =
-    let r = c.before in
-    let n = r.before.before in
-    let a = n.before.before.before.before.args in
-    sym (pattern_refuses a.pattern.now a.path.now n.before.if1.false (sym n.path-refusal.ensures ∙ r.before.if2.false) (sym r.readable-pattern.ensures ∙ c.if3.false))
-
-pub match-refusal-spec : {M : Type 1} → statement M
-match-refusal-spec =
-    tie.close
-    (tie.spec
-    returns
-    path-refusal-requires
-    returns-2
-    readable-pattern-requires
-    returns-3
-    returns-4)
+pub match_refusal_spec : {M : Type 1} → statement M
+match_refusal_spec = tie.close (tie.spec returns-then-pattern-gt512000 path_refusal-n-requires returns-then-n-ne0 readable_pattern-requires returns-then-readable_pattern returns)

@@ -18,10 +18,10 @@ use Rattle.matching.proofs.Refusing.{good_path, count_fits}
 use Rattle.matching.proofs.walk_path.Statement.{statement}
 use Rattle.matching.proofs.walk_path.Tie as tie
 
-may-change-requires : tie.Need-may-change-requires
-may-change-requires c κs = search rules
+may_change-requires : tie.Need-may_change-requires
+may_change-requires c κs = search rules
 
-module _ (c : tie.After-may-change) where
+module _ (c : tie.After-may_change) where
   abbrev start : tie.Start
   start = c.before.before.before
 
@@ -32,60 +32,49 @@ module _ (c : tie.After-may-change) where
   path = start.args.path.now
 
   good : refusal (path_rows path) ≡ 0
-  good = good_path pattern path start.pre
+  good = good_path pattern path start.requires
 
   fits : CountFits (shape_of pattern) (normal_path path)
-  fits = count_fits pattern path start.pre
+  fits = count_fits pattern path start.requires
 
   three-each : length (normal_path path) ≤ 3 * length path
   unfolding normal_path
   three-each = normal_size false 0 path
 
-  unchanged : not c.may-change.result ≡ true → normal_path path ≡ path
-  unchanged h = kept_path path (sym c.may-change.ensures ∙ not-true _ h)
+  unchanged : c.may_change.result ≡ false → normal_path path ≡ path
+  unchanged h = kept_path path (sym c.may_change.ensures ∙ h)
 
-walk-unchanged-requires : tie.Need-walk-unchanged-requires
-walk-unchanged-requires c κs =
+walk_unchanged-requires : tie.Need-walk_unchanged-requires
+walk_unchanged-requires c κs =
     let t = c.before in
-    ((path_known (path t) (good t)).1, rw (unchanged t c.if1.true) at (fits t))
+    ((path_known (path t) (good t)).1, rw (unchanged t c.if-not-may_change.true) at (fits t))
 
-returns : tie.Need-returns
-returns c = c.walk-unchanged.ensures ∙ rw (unchanged c.before.before c.before.if1.true)
+returns-then-not-may_change : tie.Need-returns-then-not-may_change
+returns-then-not-may_change c = c.walk_unchanged.ensures ∙ rw (unchanged c.before.before c.before.if-not-may_change.true)
 
-walk-short-requires : tie.Need-walk-short-requires
-walk-short-requires c κs =
+walk_short-requires : tie.Need-walk_short-requires
+walk_short-requires c κs =
     let t = c.before.before in
-    (omega (arith, c.if2.true, three-each t), fits t)
+    (omega (arith, c.if-path-le128.true, three-each t), fits t)
 
-returns-2 : tie.Need-returns-2
-returns-2 c = search rules
+returns-then-path-le128 : tie.Need-returns-then-path-le128
+returns-then-path-le128 c = search rules
 
-walk-middle-requires : tie.Need-walk-middle-requires
-walk-middle-requires c κs =
+walk_middle-requires : tie.Need-walk_middle-requires
+walk_middle-requires c κs =
     let t = c.before.before.before in
-    (omega (arith, c.if3.true, three-each t), fits t)
+    (omega (arith, c.if-path-le512.true, three-each t), fits t)
 
-returns-3 : tie.Need-returns-3
-returns-3 c = search rules
+returns-then-path-le512 : tie.Need-returns-then-path-le512
+returns-then-path-le512 c = search rules
 
-walk-long-requires : tie.Need-walk-long-requires
-walk-long-requires c κs =
+walk_long-requires : tie.Need-walk_long-requires
+walk_long-requires c κs =
     let t = c.before.before.before in
     (path_room (path t) (good t), fits t)
 
-returns-4 : tie.Need-returns-4
-returns-4 c = search rules
+returns : tie.Need-returns
+returns c = search rules
 
-pub walk-path-spec : {M : Type 1} → statement M
-walk-path-spec =
-    tie.close
-    (tie.spec
-    may-change-requires
-    walk-unchanged-requires
-    returns
-    walk-short-requires
-    returns-2
-    walk-middle-requires
-    returns-3
-    walk-long-requires
-    returns-4)
+pub walk_path_spec : {M : Type 1} → statement M
+walk_path_spec = tie.close (tie.spec may_change-requires walk_unchanged-requires returns-then-not-may_change walk_short-requires returns-then-path-le128 walk_middle-requires returns-then-path-le512 walk_long-requires returns)
