@@ -3,17 +3,17 @@ use borrow.Author.Rules.{rules}
 use Rattle.leading.proofs.is_settled.Statement.{statement}
 use Rattle.leading.proofs.is_settled.Tie as tie
 
-enum_told : tie.Need-enum-told
-enum_told c = search rules
+enum_told-1 : tie.Need-enum_told-1
+enum_told-1 c = search rules
 
-enum-told-2 : tie.Need-enum-told-2
-enum-told-2 c = search rules
+enum_told-in-Draft1996 : tie.Need-enum_told-in-Draft1996
+enum_told-in-Draft1996 c = search rules
 
-returns : tie.Need-returns
-returns c = rw c.enum_told.given.1
+returns-in-Rfc9309 : tie.Need-returns-in-Rfc9309
+returns-in-Rfc9309 c = rw c.in-Rfc9309.is
 
-returns-2 : tie.Need-returns-2
-returns-2 c = rw c.before.enum-told2.given.1
+returns-in-Draft1996 : tie.Need-returns-in-Draft1996
+returns-in-Draft1996 c = rw c.before.in-Draft1996.is
 
-pub is-settled-spec : {M : Type 1} → statement M
-is-settled-spec = tie.close (tie.spec enum_told enum-told-2 returns returns-2)
+pub is_settled_spec : {M : Type 1} → statement M
+is_settled_spec = tie.close (tie.spec enum_told-1 enum_told-in-Draft1996 returns-in-Rfc9309 returns-in-Draft1996)

@@ -6,135 +6,108 @@ use Rattle.leading.proofs.Rules.{rule_within, lent_front, lent_size, led_taken, 
 use Rattle.leading.proofs.lead.Statement.{statement}
 use Rattle.leading.proofs.lead.Tie as tie
 
-abbrev start : tie.After-slice-known → tie.Start
+abbrev start : tie.After-slice_known-1 → tie.Start
 start c = c.before.before.before.before
 
 -- it is weighed
-module _ (c : tie.After-is-ahead) where
-  abbrev weighs : tie.After-weigh-from
+module _ (c : tie.After-is_ahead) where
+  abbrev weighs : tie.After-weigh_from-weight
   weighs = c.before.before.before
 
   abbrev given : tie.Start
   given = start weighs.before.before.before.before.before.before.before
 
-mul_at : tie.Need-overflow-mul-at
-mul_at c = search rules
+overflow_mul-at : tie.Need-overflow_mul-at
+overflow_mul-at c = search rules
 
-mul-start : tie.Need-overflow-mul-start
-mul-start c = search rules
+offset_bounds-table-at : tie.Need-offset_bounds-table-at
+offset_bounds-table-at c = search rules
 
-shared-slice-read-start : tie.Need-shared-slice-read-start
-shared-slice-read-start c = search rules
+bounds-table-at : tie.Need-bounds-table-at
+bounds-table-at c = search rules
 
-add-end : tie.Need-overflow-add-end
-add-end c = search rules
+overflow_add-end : tie.Need-overflow_add-end
+overflow_add-end c = search rules
 
-mul-end : tie.Need-overflow-mul-end
-mul-end c = search rules
+offset_bounds-table-at-2 : tie.Need-offset_bounds-table-at-2
+offset_bounds-table-at-2 c = search rules
 
-shared-slice-read-end : tie.Need-shared-slice-read-end
-shared-slice-read-end c = search rules
+bounds-table-at-2 : tie.Need-bounds-table-at-2
+bounds-table-at-2 c = search rules
 
-add-end-2 : tie.Need-overflow-add-end-2
-add-end-2 c =
-    let s = start c.before.before in omega (arith, s.pre.0.size, rule_within s.args.i s.pre.0)
+overflow_add-end-2 : tie.Need-overflow_add-end-2
+overflow_add-end-2 c =
+    let s = start c.before.before in omega (arith, s.requires.0.size, rule_within s.args.i s.requires.0)
 
-add-side : tie.Need-overflow-add-side
-add-side c = search rules
+overflow_add-side : tie.Need-overflow_add-side
+overflow_add-side c = search rules
 
-mul-side : tie.Need-overflow-mul-side
-mul-side c = search rules
+offset_bounds-table-at-3 : tie.Need-offset_bounds-table-at-3
+offset_bounds-table-at-3 c = search rules
 
-shared-slice-read-side : tie.Need-shared-slice-read-side
-shared-slice-read-side c = search rules
+bounds-table-at-3 : tie.Need-bounds-table-at-3
+bounds-table-at-3 c = search rules
 
-add-weigh-from : tie.Need-overflow-add-weigh-from
-add-weigh-from c = search rules
+overflow_add-at : tie.Need-overflow_add-at
+overflow_add-at c = search rules
 
-mul-weigh-from : tie.Need-overflow-mul-weigh-from
-mul-weigh-from c = search rules
+offset_bounds-table-at-4 : tie.Need-offset_bounds-table-at-4
+offset_bounds-table-at-4 c = search rules
 
-shared-slice-read-weigh-from : tie.Need-shared-slice-read-weigh-from
-shared-slice-read-weigh-from c = search rules
+bounds-table-at-4 : tie.Need-bounds-table-at-4
+bounds-table-at-4 c = search rules
 
-sub-weigh-from : tie.Need-overflow-sub-weigh-from
-sub-weigh-from c = search rules
+slice_bounds-weigh_from-count : tie.Need-slice_bounds-weigh_from-count
+slice_bounds-weigh_from-count c = search rules
 
-part-weigh-from-start : tie.Need-slice-bounds-weigh-from-start
-part-weigh-from-start c = search rules
+slice_bounds-weigh_from-start : tie.Need-slice_bounds-weigh_from-start
+slice_bounds-weigh_from-start c = search rules
 
-part-weigh-from-end : tie.Need-slice-bounds-weigh-from-end
-part-weigh-from-end c =
-    let s = start c.before.before.before.before in rule_within s.args.i s.pre.0
+slice_bounds-weigh_from-end : tie.Need-slice_bounds-weigh_from-end
+slice_bounds-weigh_from-end c =
+    let s = start c.before.before.before.before in rule_within s.args.i s.requires.0
 
-weigh-from-requires : tie.Need-weigh-from-requires
-weigh-from-requires c κs =
+weigh_from-weight-requires : tie.Need-weigh_from-weight-requires
+weigh_from-weight-requires c κs =
     let s = start c.before.before.before.before.before.before in
-    (lent_front s.args.i s.pre.0, lent_size s.args.i s.pre.0, s.pre.0.short, s.pre.0.lent)
+    (lent_front s.args.i s.requires.0, lent_size s.args.i s.requires.0, s.requires.0.short, s.requires.0.lent)
 
-is-ahead-requires : tie.Need-is-ahead-requires
-is-ahead-requires c κs = search rules
+is_ahead-requires : tie.Need-is_ahead-requires
+is_ahead-requires c κs = search rules
 
-add-number : tie.Need-overflow-add-number
-add-number c = search rules
+overflow_add-number : tie.Need-overflow_add-number
+overflow_add-number c = search rules
 
-mul-number : tie.Need-overflow-mul-number
-mul-number c = search rules
+offset_bounds-table-at-then-is_ahead : tie.Need-offset_bounds-table-at-then-is_ahead
+offset_bounds-table-at-then-is_ahead c = search rules
 
-shared-slice-read-number : tie.Need-shared-slice-read-number
-shared-slice-read-number c = search rules
+bounds-table-at-then-is_ahead : tie.Need-bounds-table-at-then-is_ahead
+bounds-table-at-then-is_ahead c = search rules
 
-same_length : tie.Need-same-length
-same_length c = search rules
+shape_of-scratch-then-is_ahead : tie.Need-shape_of-scratch-then-is_ahead
+shape_of-scratch-then-is_ahead c = search rules
 
-returns : tie.Need-returns
-returns c =
+returns-then-is_ahead : tie.Need-returns-then-is_ahead
+returns-then-is_ahead c =
     let t = c.before in
     let h = t.before in
     let s = given h in (
-      led_taken s.args.i s.pre.0 s.args.dialect s.args.leader _ (weighs h).weigh-from.ensures.0 s.pre.1
-          (sym h.is-ahead.ensures ∙ t.if1.true),
-      (weighs h).weigh-from.ensures.1,
+      led_taken s.args.i s.requires.0 s.args.dialect s.args.leader _ (weighs h).weigh_from-weight.ensures.0 s.requires.1
+          (sym h.is_ahead.ensures ∙ t.if-is_ahead.true),
+      (weighs h).weigh_from-weight.ensures.1,
     )
 
-same-length-2 : tie.Need-same-length-2
-same-length-2 c = search rules
+shape_of-scratch : tie.Need-shape_of-scratch
+shape_of-scratch c = search rules
 
-returns-2 : tie.Need-returns-2
-returns-2 c =
+returns : tie.Need-returns
+returns c =
     let h = c.before in
     let s = given h in (
-      led_passed s.args.i s.pre.0 s.args.dialect s.args.leader _ (weighs h).weigh-from.ensures.0 s.pre.1
-          (sym h.is-ahead.ensures ∙ c.if1.false),
-      (weighs h).weigh-from.ensures.1,
+      led_passed s.args.i s.requires.0 s.args.dialect s.args.leader _ (weighs h).weigh_from-weight.ensures.0 s.requires.1
+          (sym h.is_ahead.ensures ∙ c.if-is_ahead.false),
+      (weighs h).weigh_from-weight.ensures.1,
     )
 
-pub lead-spec : {M : Type 1} → statement M
-lead-spec =
-    tie.close
-    (tie.spec
-    mul_at
-    mul-start
-    shared-slice-read-start
-    add-end
-    mul-end
-    shared-slice-read-end
-    add-end-2
-    add-side
-    mul-side
-    shared-slice-read-side
-    add-weigh-from
-    mul-weigh-from
-    shared-slice-read-weigh-from
-    sub-weigh-from
-    part-weigh-from-start
-    part-weigh-from-end
-    weigh-from-requires
-    is-ahead-requires
-    add-number
-    mul-number
-    shared-slice-read-number
-    same_length
-    returns
-    same-length-2
-    returns-2)
+pub lead_spec : {M : Type 1} → statement M
+lead_spec = tie.close (tie.spec overflow_mul-at offset_bounds-table-at bounds-table-at overflow_add-end offset_bounds-table-at-2 bounds-table-at-2 overflow_add-end-2 overflow_add-side offset_bounds-table-at-3 bounds-table-at-3 overflow_add-at offset_bounds-table-at-4 bounds-table-at-4 slice_bounds-weigh_from-count slice_bounds-weigh_from-start slice_bounds-weigh_from-end weigh_from-weight-requires is_ahead-requires overflow_add-number offset_bounds-table-at-then-is_ahead bounds-table-at-then-is_ahead shape_of-scratch-then-is_ahead returns-then-is_ahead shape_of-scratch returns)

@@ -14,7 +14,7 @@ use Rattle.leading.proofs.weigh_rest.Statement.{statement}
 use Rattle.leading.proofs.weigh_rest.Tie as tie
 
 -- where the dialect is asked for
-module _ (c : tie.After-slice-known) where
+module _ (c : tie.After-slice_known-1) where
   abbrev start : tie.Start
   start = c.before.before.before
 
@@ -31,53 +31,43 @@ module _ (c : tie.After-slice-known) where
   scratch = start.args.scratch.now
 
   room : Room rest path scratch none_considered
-  room = record { short = start.pre.1; lent = start.pre.2; size = start.pre.0; compared = omega (arith, start.pre.0) }
+  room = record { short = start.requires.1; lent = start.requires.2; size = start.requires.0; compared = omega (arith, start.requires.0) }
 
   told : (d : Dialect) → dialect ≡ d → (w : Weighed) → w ≡ weighed d rest path → w.weight ≡ (weighed dialect rest path).weight
   told d e w h = ap (λ (x : Weighed). x.weight) h ∙ ap (λ (x : Dialect). (weighed x rest path).weight) (sym e)
 
-enum_told : tie.Need-enum-told
-enum_told c = search rules
+enum_told-1 : tie.Need-enum_told-1
+enum_told-1 c = search rules
 
-weigh-starred-requires : tie.Need-weigh-starred-requires
+weigh_starred-w-requires : tie.Need-weigh_starred-w-requires
 unfolding shape_in
-weigh-starred-requires c κs =
-    let s = c.before.before.before in
+weigh_starred-w-requires c κs =
+    let s = c.before.before in
     ((start s).requires.2, weight_fits Dialect.Rfc9309 (rest s) (path s) (scratch s) none_considered (room s), count_fits Dialect.Rfc9309 (rest s) (path s) (scratch s) none_considered (room s))
 
-enum-told-2 : tie.Need-enum-told-2
-enum-told-2 c = search rules
+enum_told-in-Draft1996 : tie.Need-enum_told-in-Draft1996
+enum_told-in-Draft1996 c = search rules
 
-weigh-plain-requires : tie.Need-weigh-plain-requires
-weigh-plain-requires c κs = search rules
+weigh_plain-w-requires : tie.Need-weigh_plain-w-requires
+weigh_plain-w-requires c κs = search rules
 
-same_length : tie.Need-same-length
-same_length c = search rules
+shape_of-scratch-in-Rfc9309 : tie.Need-shape_of-scratch-in-Rfc9309
+shape_of-scratch-in-Rfc9309 c = search rules
 
-returns : tie.Need-returns
-returns c =
+returns-in-Rfc9309 : tie.Need-returns-in-Rfc9309
+returns-in-Rfc9309 c =
     let w = c.before.before in
     let t = w.before.before in
-    (told t.before.before Dialect.Rfc9309 t.enum_told.given.1 _ w.weigh-starred.ensures.0, w.weigh-starred.auto.1.1.0)
+    (told t.before Dialect.Rfc9309 t.in-Rfc9309.is _ w.weigh_starred-w.ensures.0, w.weigh_starred-w.auto.1.1.0)
 
-same-length-2 : tie.Need-same-length-2
-same-length-2 c = search rules
+shape_of-scratch-in-Draft1996 : tie.Need-shape_of-scratch-in-Draft1996
+shape_of-scratch-in-Draft1996 c = search rules
 
-returns-2 : tie.Need-returns-2
-returns-2 c =
+returns-in-Draft1996 : tie.Need-returns-in-Draft1996
+returns-in-Draft1996 c =
     let w = c.before.before in
     let t = w.before.before in
-    (told t.before.before Dialect.Draft1996 t.enum-told2.given.1 _ w.weigh-plain.ensures.0, w.weigh-plain.auto.1.1.0)
+    (told t.before Dialect.Draft1996 t.in-Draft1996.is _ w.weigh_plain-w.ensures.0, w.weigh_plain-w.auto.1.1.0)
 
-pub weigh-rest-spec : {M : Type 1} → statement M
-weigh-rest-spec =
-    tie.close
-    (tie.spec
-    enum_told
-    weigh-starred-requires
-    enum-told-2
-    weigh-plain-requires
-    same_length
-    returns
-    same-length-2
-    returns-2)
+pub weigh_rest_spec : {M : Type 1} → statement M
+weigh_rest_spec = tie.close (tie.spec enum_told-1 weigh_starred-w-requires enum_told-in-Draft1996 weigh_plain-w-requires shape_of-scratch-in-Rfc9309 returns-in-Rfc9309 shape_of-scratch-in-Draft1996 returns-in-Draft1996)

@@ -24,7 +24,7 @@ slice_bounds-walk_of-end c =
     let w = c.before.before in omega (arith, w.write-n.ensures.0, w.write-n.auto.out, (entry w.before).requires.0)
 
 slice_bounds-walk_of-end-2 : tie.Need-slice_bounds-walk_of-end-2
-slice_bounds-walk_of-end-2 c = sym (length-take-le _ _ (slice_bounds-walk_of-end c.before))
+slice_bounds-walk_of-end-2 c = sym (length-take-le _ _ (slice_bounds-walk_of-end c))
 
 module _ (c : tie.After-walk_of-arg-1) where
   abbrev written : tie.After-write-n

@@ -11,26 +11,26 @@ use Rattle.passes.proofs.Choices.{Looked, looked_first, looked_crawler, looked_o
 use Rattle.passes.proofs.audience.choose_audience.Statement.{statement}
 use Rattle.passes.proofs.audience.choose_audience.Tie as tie
 
-abbrev invariant-loop : tie.invariant-loop
-invariant-loop classes file name chosen₀ at₀ chosen at = Looked file name chosen at
+abbrev invariant-loop-at : tie.invariant-loop-at
+invariant-loop-at classes file name chosen₀ at₀ chosen at = Looked file name chosen at
 
-abbrev decreases-loop : tie.decreases-loop
-decreases-loop classes file name chosen₀ at₀ chosen at = length file - at.offset
+abbrev decreases-loop-at : tie.decreases-loop-at
+decreases-loop-at classes file name chosen₀ at₀ chosen at = length file - at.offset
 
-first-place-requires : tie.Need-first-place-requires invariant-loop decreases-loop
-first-place-requires c κs = tt
+first_place-at-requires : tie.Need-first_place-at-requires invariant-loop-at decreases-loop-at
+first_place-at-requires c κs = tt
 
-loop-holds : tie.Need-loop-init invariant-loop decreases-loop
-loop-holds c =
+loop-at-init : tie.Need-loop-at-init invariant-loop-at decreases-loop-at
+loop-at-init c =
     let a = c.before.before.before.args in
-    looked_first a.file.now a.name.now _ c.first-place.ensures
+    looked_first a.file.now a.name.now _ c.first_place-at.ensures
 
 -- the file, and the line where a turn begins
-module _ (c : tie.Then1 invariant-loop decreases-loop) where
-  abbrev turn : tie.At-loop invariant-loop decreases-loop
+module _ (c : tie.In-loop-at invariant-loop-at decreases-loop-at) where
+  abbrev turn : tie.At-loop-at invariant-loop-at decreases-loop-at
   turn = c.before.before
 
-  abbrev start : tie.Start invariant-loop decreases-loop
+  abbrev start : tie.Start invariant-loop-at decreases-loop-at
   start = turn.before.before.before.before
 
   abbrev file : List ℕ
@@ -40,69 +40,55 @@ module _ (c : tie.Then1 invariant-loop decreases-loop) where
   name = start.args.name.now
 
   abbrev at : Place
-  at = turn.loop.at
+  at = turn.loop-at.at
 
   inside : at.offset < length file
-  inside = c.if1.true
+  inside = c.loop-at-test.true
 
-  known : Looked file name turn.loop.chosen at
-  known = turn.loop.inv
+  known : Looked file name turn.loop-at.chosen at
+  known = turn.loop-at.invariant
 
-line-audience-requires : tie.Need-line-audience-requires invariant-loop decreases-loop
-line-audience-requires c κs = (search rules, omega (arith, inside c))
+line_audience-here-requires : tie.Need-line_audience-here-requires invariant-loop-at decreases-loop-at
+line_audience-here-requires c κs = (search rules, omega (arith, inside c))
 
-enum_told : tie.Need-enum-told invariant-loop decreases-loop
-enum_told c = search rules
+enum_told-1 : tie.Need-enum_told-1 invariant-loop-at decreases-loop-at
+enum_told-1 c = search rules
 
-returns : tie.Need-returns invariant-loop decreases-loop
-returns c =
+returns-in-Crawler : tie.Need-returns-in-Crawler invariant-loop-at decreases-loop-at
+returns-in-Crawler c =
     let l = c.before.before in
-    let t = l.before in
-    looked_crawler (file t) (name t) (at t) (known t).further (inside t) _ (known t) _ l.line-audience.ensures c.enum_told.given.1
+    let t = l in
+    looked_crawler (file t) (name t) (at t) (known t).further (inside t) _ (known t) _ l.line_audience-here.ensures c.in-Crawler.is
 
-after-line-requires : tie.Need-after-line-requires invariant-loop decreases-loop
-after-line-requires c κs = tt
+after_line-chosen-requires : tie.Need-after_line-chosen-requires invariant-loop-at decreases-loop-at
+after_line-chosen-requires c κs = tt
 
-next-agent-requires : tie.Need-next-agent-requires invariant-loop decreases-loop
-next-agent-requires c κs = inside c.before.before.before
+next_agent-at-requires : tie.Need-next_agent-at-requires invariant-loop-at decreases-loop-at
+next_agent-at-requires c κs = inside c.before.before.before
 
 -- past some lines
-module _ (c : tie.After-next-agent invariant-loop decreases-loop) where
-  abbrev told : tie.After-line-audience invariant-loop decreases-loop
+module _ (c : tie.After-next_agent-at invariant-loop-at decreases-loop-at) where
+  abbrev told : tie.After-line_audience-here invariant-loop-at decreases-loop-at
   told = c.before.before.before
 
-  abbrev line : tie.Then1 invariant-loop decreases-loop
+  abbrev line : tie.In-loop-at invariant-loop-at decreases-loop-at
   line = told.before
 
-loop-less : tie.Need-loop-smaller invariant-loop decreases-loop
-loop-less c =
+loop-at-smaller : tie.Need-loop-at-smaller invariant-loop-at decreases-loop-at
+loop-at-smaller c =
     let t = line c in
-    omega (arith, ap (λ (p : Place). p.offset) c.next-agent.ensures, agents_further (file t) (at t), inside t)
+    omega (arith, ap (λ (p : Place). p.offset) c.next_agent-at.ensures, agents_further (file t) (at t), inside t)
 
-loop-again : tie.Need-loop-preserved invariant-loop decreases-loop
-loop-again c =
+loop-at-preserved : tie.Need-loop-at-preserved invariant-loop-at decreases-loop-at
+loop-at-preserved c =
     let t = line c in
-    looked_on (file t) (name t) (at t) (known t).further (inside t) _ (told c).line-audience.ensures c.before.before.match.keys2 _ (known t) _ c.before.after_Line.ensures _ c.next-agent.ensures
+    looked_on (file t) (name t) (at t) (known t).further (inside t) _ (told c).line_audience-here.ensures c.before.before.in_default.in_default-own.keys2 _ (known t) _ c.before.after_line-chosen.ensures _ c.next_agent-at.ensures
 
-returns-2 : tie.Need-returns-2 invariant-loop decreases-loop
-returns-2 c =
+returns : tie.Need-returns invariant-loop-at decreases-loop-at
+returns c =
     let l = c.before.before in
     let a = l.before.before.before.before.args in
-    looked_end a.file.now a.name.now l.loop.chosen l.loop.at l.loop.invariant c.if1.false
+    looked_end a.file.now a.name.now l.loop-at.chosen l.loop-at.at l.loop-at.invariant c.loop-at-test.false
 
-pub choose-audience-spec : {M : Type 1} → statement M
-choose-audience-spec =
-    tie.close
-    (tie.spec
-    invariant-loop
-    decreases-loop
-    first-place-requires
-    loop-holds
-    line-audience-requires
-    enum_told
-    returns
-    after-line-requires
-    next-agent-requires
-    loop-less
-    loop-again
-    returns-2)
+pub choose_audience_spec : {M : Type 1} → statement M
+choose_audience_spec = tie.close (tie.spec invariant-loop-at decreases-loop-at first_place-at-requires loop-at-init line_audience-here-requires enum_told-1 returns-in-Crawler after_line-chosen-requires next_agent-at-requires loop-at-smaller loop-at-preserved returns)

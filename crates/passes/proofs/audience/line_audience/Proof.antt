@@ -23,23 +23,23 @@ use Rattle.passes.proofs.Choices.{agent_audience, other_audience}
 use Rattle.passes.proofs.audience.line_audience.Statement.{statement}
 use Rattle.passes.proofs.audience.line_audience.Tie as tie
 
-sub-rest : tie.Need-overflow-sub-rest
-sub-rest c = search rules
+slice_bounds-rest-count : tie.Need-slice_bounds-rest-count
+slice_bounds-rest-count c = search rules
 
-part-rest-start : tie.Need-slice-bounds-rest-start
-part-rest-start c = search rules
+slice_bounds-rest-start : tie.Need-slice_bounds-rest-start
+slice_bounds-rest-start c = search rules
 
-part-rest-end : tie.Need-slice-bounds-rest-end
-part-rest-end c = search rules
+slice_bounds-rest-end : tie.Need-slice_bounds-rest-end
+slice_bounds-rest-end c = search rules
 
-agent-head-requires : tie.Need-agent-head-requires
-agent-head-requires c κs = search rules
+agent_head-head-requires : tie.Need-agent_head-head-requires
+agent_head-head-requires c κs = search rules
 
-enum_told : tie.Need-enum-told
-enum_told c = search rules
+enum_told-1 : tie.Need-enum_told-1
+enum_told-1 c = search rules
 
 -- the file, and the line's place
-module _ (c : tie.After-agent-head) where
+module _ (c : tie.After-agent_head-head) where
   abbrev start : tie.Start
   start = c.before.before.before.before
 
@@ -49,29 +49,29 @@ module _ (c : tie.After-agent-head) where
   abbrev at : Place
   at = start.args.at
 
-returns : tie.Need-returns
-returns c =
+returns-in_default : tie.Need-returns-in_default
+returns-in_default c =
     let h = c.before in
     other_audience (file h) (start h).args.name.now (at h)
-    (rw (rest_of (at h).offset (file h)) at (head_no_agent _ h.agent-head.result h.agent-head.ensures c.match.keys2))
+    (rw (rest_of (at h).offset (file h)) at (head_no_agent _ h.agent_head-head.result h.agent_head-head.ensures c.in_default.in_default-own.keys2))
 
 -- an agent line, and its value
-module _ (c : tie.After-enum-told) where
-  abbrev headed : tie.After-agent-head
-  headed = c.before.before
+module _ (c : tie.In-Agent) where
+  abbrev headed : tie.After-agent_head-head
+  headed = c.before
 
   abbrev rest : List ℕ
   rest = take (length (file headed) - (at headed).offset) (drop (at headed).offset (file headed))
 
   abbrev value : Place
-  value = headed.agent-head.result.value
+  value = headed.agent_head-head.result.value
 
   inside : value.offset ≤ length rest
-  inside = agent_inside rest headed.agent-head.result headed.agent-head.ensures c.enum_told.given.1
+  inside = agent_inside rest headed.agent_head-head.result headed.agent_head-head.ensures c.in-Agent.is
 
   agent-known : Kind.Agent (agent_at value (value_at value rest)) ≡ kind_of (text_at (file headed) (at headed))
   agent-known =
-      agent_kind rest headed.agent-head.result headed.agent-head.ensures c.enum_told.given.1
+      agent_kind rest headed.agent_head-head.result headed.agent_head-head.ensures c.in-Agent.is
       ∙ ap (λ (l : List ℕ). kind_of (line_text l)) (rest_of (at headed).offset (file headed))
 
   -- the octets from the value on
@@ -87,40 +87,27 @@ module _ (c : tie.After-enum-told) where
       ∙ ap (λ (v : List ℕ). line_value (file headed) (at headed) (Kind.Agent (agent_at value v))) (ap value_front (sym from-value))
       ∙ ap (line_value (file headed) (at headed)) agent-known
 
-sub-value-audience : tie.Need-overflow-sub-value-audience
-sub-value-audience c = inside c
+slice_bounds-value_audience-count : tie.Need-slice_bounds-value_audience-count
+slice_bounds-value_audience-count c = inside c
 
-part-value-audience-start : tie.Need-slice-bounds-value-audience-start
-part-value-audience-start c = inside c
+slice_bounds-value_audience-start : tie.Need-slice_bounds-value_audience-start
+slice_bounds-value_audience-start c = inside c
 
-part-value-audience-end : tie.Need-slice-bounds-value-audience-end
-part-value-audience-end c = search rules
+slice_bounds-value_audience-end : tie.Need-slice_bounds-value_audience-end
+slice_bounds-value_audience-end c = search rules
 
-value-audience-requires : tie.Need-value-audience-requires
-value-audience-requires c κs = search rules
+value_audience-requires : tie.Need-value_audience-requires
+value_audience-requires c κs = search rules
 
-returns-2 : tie.Need-returns-2
+returns : tie.Need-returns
 unfolding role_of
-returns-2 c =
+returns c =
     let e = c.before.before in
     let h = headed e in
     let name = (start h).args.name.now in
-    c.value-audience.ensures
+    c.value_audience.ensures
     ∙ ap (addressed name) (ap value_front (rest_of (value e).offset (rest e)) ∙ value_known e)
     ∙ agent_audience (file h) name (at h) (ap role_of (sym (agent-known e)))
 
-pub line-audience-spec : {M : Type 1} → statement M
-line-audience-spec =
-    tie.close
-    (tie.spec
-    sub-rest
-    part-rest-start
-    part-rest-end
-    agent-head-requires
-    enum_told
-    returns
-    sub-value-audience
-    part-value-audience-start
-    part-value-audience-end
-    value-audience-requires
-    returns-2)
+pub line_audience_spec : {M : Type 1} → statement M
+line_audience_spec = tie.close (tie.spec slice_bounds-rest-count slice_bounds-rest-start slice_bounds-rest-end agent_head-head-requires enum_told-1 returns-in_default slice_bounds-value_audience-count slice_bounds-value_audience-start slice_bounds-value_audience-end value_audience-requires returns)

@@ -15,74 +15,65 @@ use Rattle.passes.proofs.Named.{text_names, not_everyone}
 use Rattle.passes.proofs.audience.value_audience.Statement.{statement}
 use Rattle.passes.proofs.audience.value_audience.Tie as tie
 
-is-star-requires : tie.Need-is-star-requires
-is-star-requires c κs = search rules
+is_star-requires : tie.Need-is_star-requires
+is_star-requires c κs = search rules
 
-is-everyone-requires : tie.Need-is-everyone-requires
-is-everyone-requires c κs = tt
+is_everyone-requires : tie.Need-is_everyone-requires
+is_everyone-requires c κs = tt
 
 -- the name, and the value
-module _ (c : tie.After-is-star) where
+module _ (c : tie.After-is_star) where
   abbrev name : List ℕ
   name = c.before.before.before.args.name.now
 
   abbrev value : List ℕ
   value = value_front c.before.before.before.args.s.now
 
-  told : same value everyone ≡ c.is-star.result
-  told = sym c.is-star.ensures
+  told : same value everyone ≡ c.is_star.result
+  told = sym c.is_star.ensures
 
 -- it is "*"
-module _ (c : tie.After-is-everyone) where
-  abbrev starred : tie.After-is-star
+module _ (c : tie.After-is_everyone) where
+  abbrev starred : tie.After-is_star
   starred = c.before.before
 
   star : same (value starred) everyone ≡ true
-  star = told starred ∙ c.before.if1.true
+  star = told starred ∙ c.before.if-is_star.true
 
-  crawler-named : names (value starred) (name starred) ≡ c.is-everyone.result
-  crawler-named = sym (c.is-everyone.ensures ∙ star_names (value starred) (name starred) star)
+  crawler-named : names (value starred) (name starred) ≡ c.is_everyone.result
+  crawler-named = sym (c.is_everyone.ensures ∙ star_names (value starred) (name starred) star)
 
   everyone-named : names (value starred) everyone ≡ true
   unfolding octets same
   everyone-named = sym (star_names (value starred) everyone star)
 
-returns : tie.Need-returns
-returns c = rw (crawler-named c.before ∙ c.if2.true)
+returns-then-is_everyone : tie.Need-returns-then-is_everyone
+returns-then-is_everyone c = rw (crawler-named c.before ∙ c.if-is_everyone.true)
 
-returns-2 : tie.Need-returns-2
-returns-2 c = rw (crawler-named c.before ∙ c.if2.false, everyone-named c.before)
+returns-then-is_star : tie.Need-returns-then-is_star
+returns-then-is_star c = rw (crawler-named c.before ∙ c.if-is_everyone.false, everyone-named c.before)
 
 names-requires : tie.Need-names-requires
 names-requires c κs = search rules
 
 -- it isn't
 module _ (c : tie.After-names) where
-  abbrev other : tie.After-is-star
+  abbrev other : tie.After-is_star
   other = c.before.before
 
   no-star : same (value other) everyone ≡ false
-  no-star = told other ∙ c.before.if1.false
+  no-star = told other ∙ c.before.if-is_star.false
 
   named : names (value other) (name other) ≡ c.names.result
   named = sym (c.names.ensures ∙ text_names other.before.before.before.args.s.now no-star (name other))
 
-returns-3 : tie.Need-returns-3
-returns-3 c = rw (named c.before ∙ c.if3.true)
+returns-then-names : tie.Need-returns-then-names
+returns-then-names c = rw (named c.before ∙ c.if-names.true)
 
-returns-4 : tie.Need-returns-4
-returns-4 c =
+returns : tie.Need-returns
+returns c =
     let n = c.before in
-    rw (named n ∙ c.if3.false, not_everyone (other n).before.before.before.args.s.now (no-star n))
+    rw (named n ∙ c.if-names.false, not_everyone (other n).before.before.before.args.s.now (no-star n))
 
-pub value-audience-spec : {M : Type 1} → statement M
-value-audience-spec =
-    tie.close
-    (tie.spec
-    is-star-requires
-    is-everyone-requires
-    returns
-    returns-2
-    names-requires
-    returns-3
-    returns-4)
+pub value_audience_spec : {M : Type 1} → statement M
+value_audience_spec = tie.close (tie.spec is_star-requires is_everyone-requires returns-then-is_everyone returns-then-is_star names-requires returns-then-names returns)

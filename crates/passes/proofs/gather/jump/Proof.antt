@@ -8,37 +8,37 @@ use Rattle.lines.proofs.Skips.{few_between}
 use Rattle.passes.proofs.gather.jump.Statement.{statement}
 use Rattle.passes.proofs.gather.jump.Tie as tie
 
-returns : tie.Need-returns
-returns c =
+returns-then-file-to : tie.Need-returns-then-file-to
+returns-then-file-to c =
     let s = c.before.before.before.before in
-    record { place = refl; counted = omega (arith, s.requires.0, s.requires.1); number = λ i. absurd (omega (arith, i, c.if1.true)) }
+    record { place = refl; counted = omega (arith, s.requires.0, s.requires.1); number = λ i. absurd (omega (arith, i, c.if-file-to.true)) }
 
-count-endings-requires : tie.Need-count-endings-requires
-count-endings-requires c κs = search rules
+count_endings-requires : tie.Need-count_endings-requires
+count_endings-requires c κs = search rules
 
 -- where the endings are counted
-module _ (c : tie.After-count-endings) where
+module _ (c : tie.After-count_endings) where
   abbrev start : tie.Start
-  start = c.before.before.before.before.before
+  start = c.before.before.before.before.before.before
 
-  few : c.count-endings.result ≤ start.args.to.offset - start.args.at.place.offset
-  few = omega (arith, c.count-endings.ensures, few_between start.args.file.now start.args.at.place start.args.to)
+  few : c.count_endings.result ≤ start.args.to.offset - start.args.at.place.offset
+  few = omega (arith, c.count_endings.ensures, few_between start.args.file.now start.args.at.place start.args.to)
 
-add-count : tie.Need-overflow-add-count
-add-count c =
+overflow_add-count : tie.Need-overflow_add-count
+overflow_add-count c =
     let n = c.before in
     let s = start n in
-    omega (arith, few n, s.pre.0, s.pre.1, s.pre.2, n.before.if1.false)
+    omega (arith, few n, s.requires.0, s.requires.1, s.requires.2, n.before.if-file-to.false)
 
-returns-2 : tie.Need-returns-2
-returns-2 c =
+returns : tie.Need-returns
+returns c =
     let n = c.before in
     let s = start n in
     record {
       place = refl;
-      counted = omega (arith, few n, s.pre.0, s.pre.1);
-      number = λ i. ap (λ (k : ℕ). line_number (s.args.at.number.number + k)) n.count-endings.ensures;
+      counted = omega (arith, few n, s.requires.0, s.requires.1);
+      number = λ i. ap (λ (k : ℕ). line_number (s.args.at.number.number + k)) n.count_endings.ensures;
     }
 
-pub jump-spec : {M : Type 1} → statement M
-jump-spec = tie.close (tie.spec returns count-endings-requires add-count returns-2)
+pub jump_spec : {M : Type 1} → statement M
+jump_spec = tie.close (tie.spec returns-then-file-to count_endings-requires overflow_add-count returns)

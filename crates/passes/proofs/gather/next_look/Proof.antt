@@ -4,14 +4,14 @@ use borrow.Author.Tests.{lt-ltb, le-ltb}
 use Rattle.passes.proofs.gather.next_look.Statement.{statement}
 use Rattle.passes.proofs.gather.next_look.Tie as tie
 
+returns-then-over-soonest : tie.Need-returns-then-over-soonest
+returns-then-over-soonest c = rw (lt-ltb _ _ c.if-over-soonest.true)
+
+overflow_add-next : tie.Need-overflow_add-next
+overflow_add-next c = search rules
+
 returns : tie.Need-returns
-returns c = rw (lt-ltb _ _ c.if1.true)
+returns c = rw (le-ltb _ _ c.before.if-over-soonest.false)
 
-add-next : tie.Need-overflow-add-next
-add-next c = search rules
-
-returns-2 : tie.Need-returns-2
-returns-2 c = rw (le-ltb _ _ c.before.if1.false)
-
-pub next-look-spec : {M : Type 1} → statement M
-next-look-spec = tie.close (tie.spec returns add-next returns-2)
+pub next_look_spec : {M : Type 1} → statement M
+next_look_spec = tie.close (tie.spec returns-then-over-soonest overflow_add-next returns)

@@ -2,11 +2,11 @@
 use Rattle.passes.proofs.gather.tell.Statement.{statement}
 use Rattle.passes.proofs.gather.tell.Tie as tie
 
+returns-then-whole : tie.Need-returns-then-whole
+returns-then-whole c = rw c.if-whole.true
+
 returns : tie.Need-returns
-returns c = rw c.if1.true
+returns c = rw c.if-whole.false
 
-returns-2 : tie.Need-returns-2
-returns-2 c = rw c.if1.false
-
-pub tell-spec : {M : Type 1} → statement M
-tell-spec = tie.close (tie.spec returns returns-2)
+pub tell_spec : {M : Type 1} → statement M
+tell_spec = tie.close (tie.spec returns-then-whole returns)

@@ -3,11 +3,11 @@ use borrow.Author.Rules.{rules}
 use Rattle.passes.proofs.line.first_line.Statement.{statement}
 use Rattle.passes.proofs.line.first_line.Tie as tie
 
-first-place-requires : tie.Need-first-place-requires
-first-place-requires c κs = search rules
+first_place-requires : tie.Need-first_place-requires
+first_place-requires c κs = search rules
 
 returns : tie.Need-returns
-returns c = rw c.first-place.ensures
+returns c = rw c.first_place.ensures
 
-pub first-line-spec : {M : Type 1} → statement M
-first-line-spec = tie.close (tie.spec first-place-requires returns)
+pub first_line_spec : {M : Type 1} → statement M
+first_line_spec = tie.close (tie.spec first_place-requires returns)

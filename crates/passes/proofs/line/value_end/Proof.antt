@@ -8,26 +8,26 @@ use Rattle.passes.proofs.Lines.{value_fits}
 use Rattle.passes.proofs.line.value_end.Statement.{statement}
 use Rattle.passes.proofs.line.value_end.Tie as tie
 
-place-of-requires : tie.Need-place-of-requires
-place-of-requires c κs = search rules
+place_of-place-requires : tie.Need-place_of-place-requires
+place_of-place-requires c κs = search rules
 
-add-t5 : tie.Need-overflow-add-t5
-add-t5 c =
+overflow_add-result : tie.Need-overflow_add-result
+overflow_add-result c =
     let s = c.before.before.before.before in
     let a = s.args in
-    omega (arith, ap (λ (p : Place). p.offset) c.before.before.place_of.ensures, value_fits a.file.now a.at s.requires.0 a.kind s.requires.1)
+    omega (arith, ap (λ (p : Place). p.offset) c.before.before.place_of-place.ensures, value_fits a.file.now a.at s.requires.0 a.kind s.requires.1)
 
-length-of-requires : tie.Need-length-of-requires
-length-of-requires c κs = search rules
+length_of-requires : tie.Need-length_of-requires
+length_of-requires c κs = search rules
 
-add-t7 : tie.Need-overflow-add-t7
-add-t7 c =
+overflow_add-result-2 : tie.Need-overflow_add-result-2
+overflow_add-result-2 c =
     let s = c.before.before.before.before.before in
     let a = s.args in
-    omega (arith, ap (λ (p : Place). p.offset) c.before.before.before.place_of.ensures, c.length-of.ensures, value_fits a.file.now a.at s.requires.0 a.kind s.requires.1)
+    omega (arith, ap (λ (p : Place). p.offset) c.before.before.before.place_of-place.ensures, c.length_of.ensures, value_fits a.file.now a.at s.requires.0 a.kind s.requires.1)
 
 returns : tie.Need-returns
-returns c = ap place_at (omega (arith, ap (λ (p : Place). p.offset) c.before.before.before.place_of.ensures, c.length-of.ensures))
+returns c = ap place_at (omega (arith, ap (λ (p : Place). p.offset) c.before.before.before.place_of-place.ensures, c.length_of.ensures))
 
-pub value-end-spec : {M : Type 1} → statement M
-value-end-spec = tie.close (tie.spec place-of-requires add-t5 length-of-requires add-t7 returns)
+pub value_end_spec : {M : Type 1} → statement M
+value_end_spec = tie.close (tie.spec place_of-place-requires overflow_add-result length_of-requires overflow_add-result-2 returns)
