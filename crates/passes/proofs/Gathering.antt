@@ -14,10 +14,10 @@ use Rattle.protocol.specs.declared.Rule.{Rule}
 use Rattle.protocol.specs.declared.Audience.{Audience}
 use Rattle.protocol.specs.Entries.{Role, agent, rule, Entry, entries}
 use Rattle.protocol.specs.Rules.{value_of, named_by, group_names, rules_in, audience, group_for, rules_for, applying, unreadable, unread}
-use Rattle.protocol.specs.Decision.{readable_rules, decided_by, is_robots_file, decided_among, answered, matching, heaviest, earliest, deciding, walked, compared_by}
+use Rattle.protocol.specs.Decision.{pattern_of, readable_rules, decided_by, is_robots_file, decided_among, answered, matching, heaviest, earliest, deciding, walked, compared_by}
 use Rattle.protocol.proofs.Applying.{no_rules}
 use Rattle.considering.specs.declared.Considered.{Considered}
-use Rattle.considering.specs.Considering.{none_considered, considered_all, concluded}
+use Rattle.considering.specs.Considering.{none_considered, considered, considered_all, concluded}
 use Rattle.considering.proofs.Firsts.{concluded_among}
 use Rattle.considering.proofs.Weighs.{rules_weigh}
 use Rattle.hearing.specs.declared.Hearing.{Hearing}
@@ -31,7 +31,7 @@ considered_append : (d : Dialect) (file path : List ℕ) (c : Considered) (rs ss
     → considered_all d file path c (rs ++ ss) ≡ considered_all d file path (considered_all d file path c rs) ss
 unfolding considered_all
 considered_append d file path c [] ss = refl
-considered_append d file path c (r ∷ rs) ss = considered_append d file path _ rs ss
+considered_append d file path c (r ∷ rs) ss = considered_append d file path (considered d (pattern_of file r) path r c) rs ss
 
 -- an entry adds to the unread count where it is unreadable
 heard_unread : (who : List ℕ) (ro : Role) (v : List ℕ) (h : Hearing) → (heard_as who ro v h).unread ≡ h.unread + one_if (unreadable ro v)

@@ -58,7 +58,7 @@ returns-in-Rfc9309 : tie.Need-returns-in-Rfc9309
 returns-in-Rfc9309 c =
     let w = c.before.before in
     let t = w.before.before in
-    (told t.before Dialect.Rfc9309 t.in-Rfc9309.is _ w.weigh_starred-w.ensures.0, w.weigh_starred-w.auto.1.1.0)
+    (told t.before Dialect.Rfc9309 t.in-Rfc9309.is _ w.weigh_starred-w.ensures.0, w.weigh_starred-w.auto.scratch)
 
 shape_of-scratch-in-Draft1996 : tie.Need-shape_of-scratch-in-Draft1996
 shape_of-scratch-in-Draft1996 c = search rules
@@ -67,7 +67,7 @@ returns-in-Draft1996 : tie.Need-returns-in-Draft1996
 returns-in-Draft1996 c =
     let w = c.before.before in
     let t = w.before.before in
-    (told t.before Dialect.Draft1996 t.in-Draft1996.is _ w.weigh_plain-w.ensures.0, w.weigh_plain-w.auto.1.1.0)
+    (told t.before Dialect.Draft1996 t.in-Draft1996.is _ w.weigh_plain-w.ensures.0, w.weigh_plain-w.auto.scratch)
 
 pub weigh_rest_spec : {M : Type 1} → statement M
 weigh_rest_spec = tie.close (tie.spec enum_told-1 weigh_starred-w-requires enum_told-in-Draft1996 weigh_plain-w-requires shape_of-scratch-in-Rfc9309 returns-in-Rfc9309 shape_of-scratch-in-Draft1996 returns-in-Draft1996)

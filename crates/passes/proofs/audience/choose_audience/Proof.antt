@@ -56,8 +56,8 @@ enum_told-1 c = search rules
 
 returns-in-Crawler : tie.Need-returns-in-Crawler invariant-loop-at decreases-loop-at
 returns-in-Crawler c =
-    let l = c.before.before in
-    let t = l in
+    let l = c.before in
+    let t = l.before in
     looked_crawler (file t) (name t) (at t) (known t).further (inside t) _ (known t) _ l.line_audience-here.ensures c.in-Crawler.is
 
 after_line-chosen-requires : tie.Need-after_line-chosen-requires invariant-loop-at decreases-loop-at

@@ -173,7 +173,7 @@ loop-at-preserved-then-not-reads_on c =
     let k = told n in
     let l = line k in
     let off = sym r.reads_on.ensures ∙ c.before.if-not-reads_on.true in
-    reached_skip (entry l).args.dialect (file l) (who l) _ _ _ _ _ _ _ (at l) _ (known l) (inside l) (over n) (passed n) _ (kind-known k) (heard r).before.in_default.keys2 _ (heard r).hear_other-h.ensures (or_right (heard r).hear_other-h.result.applies (entry l).args.whole off) (or_left (heard r).hear_other-h.result.applies (entry l).args.whole off) _ c.next_group-at.ensures
+    reached_skip (entry l).args.dialect (file l) (who l) _ _ _ _ _ _ _ (at l) _ (known l) (inside l) (over n) (passed n) _ (kind-known k) (heard r).before.in_default.in_default-own.keys2 _ (heard r).hear_other-h.ensures (or_right (heard r).hear_other-h.result.applies (entry l).args.whole off) (or_left (heard r).hear_other-h.result.applies (entry l).args.whole off) _ c.next_group-at.ensures
 
 loop-at-smaller-else-not-reads_on : tie.Need-loop-at-smaller-else-not-reads_on invariant-loop-at decreases-loop-at
 loop-at-smaller-else-not-reads_on c = less (next c.before)
@@ -219,9 +219,9 @@ loop-at-preserved c =
     let k = told n in
     let l = line k in
     let s = entry l in
-    let ruled = c.before.before.before.kind in
-    let done = c.before.before.before.before.consider_rule-c in
-    reached_rule (entry l).args.dialect (file l) (who l) _ _ _ _ _ _ _ (at l) _ (known l) (inside l) (over n) (passed n) _ (kind-known k) ruled.given.0.0 ruled.given.0.1.0 ruled.given.1 s.requires.3 _ c.before.is_unread_rule.ensures _ c.hear_rule-h.ensures _ done.ensures.0 _ done.ensures.1 _ (next_known n)
+    let ruled = c.in-Rule in
+    let done = c.consider_rule-c in
+    reached_rule (entry l).args.dialect (file l) (who l) _ _ _ _ _ _ _ (at l) _ (known l) (inside l) (over n) (passed n) _ (kind-known k) ruled.side ruled.pattern ruled.is s.requires.3 _ c.before.is_unread_rule.ensures _ c.hear_rule-h.ensures _ done.ensures.0 _ done.ensures.1 _ (next_known n)
 
 tell-requires : tie.Need-tell-requires invariant-loop-at decreases-loop-at
 tell-requires c κs = tt

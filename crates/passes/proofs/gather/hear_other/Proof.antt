@@ -28,11 +28,9 @@ hear_agent-requires c κs = search rules
 returns : tie.Need-returns
 returns c =
     let v = c.before.before in
-    let k = v.kind in
-    let s = v.before.before.before.before.before.before in
-    let a = s.args in
+    let a = v.args in
     c.hear_agent.ensures
-    ∙ agent_heard a.file.now (whom a.audience a.name.now) a.at s.requires.1 a.kind s.requires.2 k.given.0.0 k.given.1 _ v.value_of-value.ensures _ c.before.is_unread_agent.ensures a.h
+    ∙ agent_heard a.file.now (whom a.audience a.name.now) a.at v.requires.1 a.kind v.requires.2 v.in-Agent.agent v.in-Agent.is _ v.value_of-value.ensures _ c.before.is_unread_agent.ensures a.h
 
 pub hear_other_spec : {M : Type 1} → statement M
 hear_other_spec = tie.close (tie.spec enum_known-kind returns-in_default value_of-value-requires is_unread_agent-requires hear_agent-requires returns)
