@@ -3,11 +3,11 @@ use borrow.Author.Rules.{rules}
 use Rattle.collecting.proofs.first_pass.Statement.{statement}
 use Rattle.collecting.proofs.first_pass.Tie as tie
 
-first-line-requires : tie.Need-first-line-requires
-first-line-requires c κs = search rules
+first_line-at-requires : tie.Need-first_line-at-requires
+first_line-at-requires c κs = search rules
 
 returns : tie.Need-returns
-returns c = rw c.first-line.ensures
+returns c = rw c.first_line-at.ensures
 
-pub first-pass-spec : {M : Type 1} → statement M
-first-pass-spec = tie.close (tie.spec first-line-requires returns)
+pub first_pass_spec : {M : Type 1} → statement M
+first_pass_spec = tie.close (tie.spec first_line-at-requires returns)

@@ -11,31 +11,31 @@ use Rattle.collecting.proofs.Reading.{blocks_behind}
 use Rattle.collecting.proofs.pass_idle.Statement.{statement}
 use Rattle.collecting.proofs.pass_idle.Tie as tie
 
-pass-requires : tie.Need-pass-requires
-pass-requires c κs = search rules
+pass-over-requires : tie.Need-pass-over-requires
+pass-over-requires c κs = search rules
 
-line-end-requires : tie.Need-line-end-requires
-line-end-requires c κs = search rules
+line_end-end-requires : tie.Need-line_end-end-requires
+line_end-end-requires c κs = search rules
 
 -- behind the blocks
-module _ (c : tie.After-line-end) where
+module _ (c : tie.After-line_end-end) where
   abbrev given : tie.Start
-  given = c.before.before.before
+  given = c.before.before.before.before
 
   abbrev file : List ℕ
   file = given.args.file.now
 
   abbrev over : Position
-  over = c.before.pass.result
+  over = c.before.pass-over.result
 
   passed : IdlePassed file given.args.at (line_behind file over)
-  passed = blocks_behind _ _ _ given.pre.1 c.before.pass.ensures.over
+  passed = blocks_behind _ _ _ given.requires.1 c.before.pass-over.ensures.over
 
-behind-end-requires : tie.Need-behind-end-requires
-behind-end-requires c κs h = ends_there (file c) (over c).place c.line-end.result c.line-end.ensures h
+behind_end-requires : tie.Need-behind_end-requires
+behind_end-requires c κs h = ends_there (file c) (over c).place c.line_end-end.result c.line_end-end.ensures h
 
-next-line-requires : tie.Need-next-line-requires
-next-line-requires c κs =
+next_line-requires : tie.Need-next_line-requires
+next_line-requires c κs =
     let e = c.before in
     let b = (passed e).behind in
     omega (arith, b.counted, b.inside, (given e).requires.1.size)
@@ -44,8 +44,7 @@ returns : tie.Need-returns
 returns c =
     let n = c.before in
     let e = n.before in
-    rw (c.next-line.ensures, n.behind-end.ensures, next_of (file e) (over e).place e.line-end.result e.line-end.ensures) (passed e)
+    rw (c.next_line.ensures, n.behind_end.ensures, next_of (file e) (over e).place e.line_end-end.result e.line_end-end.ensures) (passed e)
 
-pub pass-idle-spec : {M : Type 1} → statement M
-pass-idle-spec =
-    tie.close (tie.spec pass-requires line-end-requires behind-end-requires next-line-requires returns)
+pub pass_idle_spec : {M : Type 1} → statement M
+pass_idle_spec = tie.close (tie.spec pass-over-requires line_end-end-requires behind_end-requires next_line-requires returns)

@@ -14,11 +14,11 @@ use Rattle.collecting.proofs.Reading.{no_rule, text_few, text_ordered, text_ends
 use Rattle.collecting.proofs.read_line.Statement.{statement}
 use Rattle.collecting.proofs.read_line.Tie as tie
 
-line-end-requires : tie.Need-line-end-requires
-line-end-requires c κs = search rules
+line_end-last-requires : tie.Need-line_end-last-requires
+line_end-last-requires c κs = search rules
 
 -- the line's text
-module _ (l : tie.After-line-end) where
+module _ (l : tie.After-line_end-last) where
   abbrev given : tie.Start
   given = l.before.before.before.before.before.before
 
@@ -29,91 +29,77 @@ module _ (l : tie.After-line-end) where
   place = given.args.c.pass.at.place
 
   abbrev end : Place
-  end = l.line-end.result
+  end = l.line_end-last.result
 
   counted : Counted file given.args.c.pass.at
-  counted = given.pre.1
+  counted = given.requires.1
 
   inside : place.offset ≤ length file
   inside = omega (arith, counted.inside)
 
-sub-line-kind : tie.Need-overflow-sub-line-kind
-sub-line-kind c = text_ordered (file c) (place c) (end c) (inside c) c.line-end.ensures
+slice_bounds-line_kind-count : tie.Need-slice_bounds-line_kind-count
+slice_bounds-line_kind-count c = text_ordered (file c) (place c) (end c) (inside c) c.line_end-last.ensures
 
-part-line-kind-start : tie.Need-slice-bounds-line-kind-start
-part-line-kind-start c = text_ordered (file c) (place c) (end c) (inside c) c.line-end.ensures
+slice_bounds-line_kind-start : tie.Need-slice_bounds-line_kind-start
+slice_bounds-line_kind-start c = text_ordered (file c) (place c) (end c) (inside c) c.line_end-last.ensures
 
-part-line-kind-end : tie.Need-slice-bounds-line-kind-end
-part-line-kind-end c = text_ends (file c) (place c) (end c) (inside c) c.line-end.ensures
+slice_bounds-line_kind-end : tie.Need-slice_bounds-line_kind-end
+slice_bounds-line_kind-end c = text_ends (file c) (place c) (end c) (inside c) c.line_end-last.ensures
 
-line-kind-requires : tie.Need-line-kind-requires
-line-kind-requires c κs =
+line_kind-kind-requires : tie.Need-line_kind-kind-requires
+line_kind-kind-requires c κs =
     let l = c.before in
-    let p = text_read (file l) (place l) (end l) (inside l) l.line-end.ensures in
+    let p = text_read (file l) (place l) (end l) (inside l) l.line_end-last.ensures in
     let few : length (text_at (file l) (place l)) ≤ 512_000 = omega (arith, text_few (file l) (place l) (inside l), (counted l).size) in
-    rw p ((given l).requires.0, few, text_unended (file l) (place l) (end l) (inside l) l.line-end.ensures)
+    rw p ((given l).requires.0, few, text_unended (file l) (place l) (end l) (inside l) l.line_end-last.ensures)
 
 -- its kind
-module _ (k : tie.After-line-kind) where
-  abbrev line : tie.After-line-end
+module _ (k : tie.After-line_kind-kind) where
+  abbrev line : tie.After-line_end-last
   line = k.before.before
 
-  kind-known : k.line-kind.result ≡ kind_of (text_at (file line) (place line))
-  kind-known = k.line-kind.ensures ∙ ap kind_of (text_read (file line) (place line) (end line) (inside line) line.line-end.ensures)
+  kind-known : k.line_kind-kind.result ≡ kind_of (text_at (file line) (place line))
+  kind-known = k.line_kind-kind.ensures ∙ ap kind_of (text_read (file line) (place line) (end line) (inside line) line.line_end-last.ensures)
 
-behind-end-requires : tie.Need-behind-end-requires
-behind-end-requires c κs h = let l = line c in ends_there (file l) (place l) (end l) l.line-end.ensures h
+behind_end-next-requires : tie.Need-behind_end-next-requires
+behind_end-next-requires c κs h = let l = line c in ends_there (file l) (place l) (end l) l.line_end-last.ensures h
 
 -- the next line
-module _ (n : tie.After-behind-end) where
-  abbrev told : tie.After-line-kind
+module _ (n : tie.After-behind_end-next) where
+  abbrev told : tie.After-line_kind-kind
   told = n.before
 
-  next_known : n.behind-end.result ≡ next_at (file (line told)) (place (line told))
-  next_known = let l = line told in n.behind-end.ensures ∙ next_of (file l) (place l) (end l) l.line-end.ensures
+  next_known : n.behind_end-next.result ≡ next_at (file (line told)) (place (line told))
+  next_known = let l = line told in n.behind_end-next.ensures ∙ next_of (file l) (place l) (end l) l.line_end-last.ensures
 
-enum-known-kind : tie.Need-enum-known-kind
-enum-known-kind c = search rules
+enum_known-kind : tie.Need-enum_known-kind
+enum_known-kind c = search rules
 
-hear-other-requires : tie.Need-hear-other-requires
-hear-other-requires c κs =
+hear_other-requires : tie.Need-hear_other-requires
+hear_other-requires c κs =
     let n = c.before in
     let k = told n in
-    ((given (line k)).pre.0, counted (line k), kind-known k, no_rule k.line-kind.result c.match.keys2, next_known n)
+    ((given (line k)).requires.0, counted (line k), kind-known k, no_rule k.line_kind-kind.result c.in_default.in_default-own.keys2, next_known n)
+
+returns-in_default : tie.Need-returns-in_default
+returns-in_default c =
+    let a = (given (line (told c.before.before))).args in
+    turn_other a.file.now a.who.now a.table.now a.c _ c.hear_other.ensures
+
+take_rule-requires : tie.Need-take_rule-requires
+take_rule-requires c κs =
+    let r = c.before.before in
+    let n = r in
+    let k = told n in
+    (counted (line k), sym r.in-Rule.is ∙ kind-known k, next_known n, (given (line k)).requires.2)
+
+shape_of-table : tie.Need-shape_of-table
+shape_of-table c = search rules
 
 returns : tie.Need-returns
 returns c =
-    let a = (given (line (told c.before.before))).args in
-    turn_other a.file.now a.who.now a.table.now a.c _ c.hear-other.ensures
-
-take-rule-requires : tie.Need-take-rule-requires
-take-rule-requires c κs =
-    let r = c.before.before in
-    let n = r.before.before in
-    let k = told n in
-    (counted (line k), sym r.kind.given.1 ∙ kind-known k, next_known n, (given (line k)).pre.2)
-
-same_length : tie.Need-same-length
-same_length c = search rules
-
-returns-2 : tie.Need-returns-2
-returns-2 c =
     let t = c.before.before in
-    t.take-rule.ensures (given (line (told t.before.before.before.before.before))).args.who.now
+    t.take_rule.ensures (given (line (told t.before.before.before))).args.who.now
 
-pub read-line-spec : {M : Type 1} → statement M
-read-line-spec =
-    tie.close
-    (tie.spec
-    line-end-requires
-    sub-line-kind
-    part-line-kind-start
-    part-line-kind-end
-    line-kind-requires
-    behind-end-requires
-    enum-known-kind
-    hear-other-requires
-    returns
-    take-rule-requires
-    same_length
-    returns-2)
+pub read_line_spec : {M : Type 1} → statement M
+read_line_spec = tie.close (tie.spec line_end-last-requires slice_bounds-line_kind-count slice_bounds-line_kind-start slice_bounds-line_kind-end line_kind-kind-requires behind_end-next-requires enum_known-kind hear_other-requires returns-in_default take_rule-requires shape_of-table returns)
