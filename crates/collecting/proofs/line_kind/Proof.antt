@@ -29,7 +29,7 @@ returns-in-Refused c =
 returns-in-Kind : tie.Need-returns-in-Kind
 returns-in-Kind c =
     let s = c.before.before.before in
-    kind_same c.in-Kind.kind (kind_of s.args.line.now) (sym c.in-Kind.is ∙ c.before.line_answer-answer.ensures ∙ known s)
+    kind_same c.in-Kind.kind (kind_of s.args.line.now) (sym c.in-Kind.is ∙ c.line_answer-answer.ensures ∙ known s)
 
 pub line_kind_spec : {M : Type 1} → statement M
 line_kind_spec = tie.close (tie.spec line_answer-answer-requires enum_told-1 enum_known-answer returns-in-Refused returns-in-Kind)

@@ -88,8 +88,8 @@ returns-in_default c =
 
 take_rule-requires : tie.Need-take_rule-requires
 take_rule-requires c κs =
-    let r = c.before.before in
-    let n = r in
+    let r = c.before in
+    let n = r.before in
     let k = told n in
     (counted (line k), sym r.in-Rule.is ∙ kind-known k, next_known n, (given (line k)).requires.2)
 

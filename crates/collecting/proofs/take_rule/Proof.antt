@@ -59,11 +59,11 @@ returns-then-not-pass k =
 
 -- the pattern's place in the line, and its length
 module _ (k : tie.After-struct_known-3-1) where
-  abbrev told : tie.In-Readable-2
+  abbrev told : tie.In-Readable
   told = k.before.before.before.before
 
   abbrev at : tie.After-next_line
-  at = told.before.before
+  at = told.before
 
   abbrev place : Place
   place = told.in-Readable.place
