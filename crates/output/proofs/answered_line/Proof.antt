@@ -41,7 +41,7 @@ module _ (c : tie.After-text_before-end) where
   abbrev given : Decision
   given = c.before.before.before.before.args.decision
 
-  ended : Built zeros 1 end_of c.text_before-end.result c.text_before-end.new.1.0
+  ended : Built zeros 1 end_of c.text_before-end.result c.text_before-end.new.out
   unfolding octets zeros
   ended = build_on (built_none zeros) 1 (omega arith) end_of (omega arith) c.text_before-end.ensures.0 c.text_before-end.ensures.1
 
@@ -52,7 +52,7 @@ module _ (c : tie.After-named_before-compared) where
   abbrev given2 : Decision
   given2 = given (ended_at c.before)
 
-  compared : Built zeros 31 (from_compared given2) c.named_before-compared.result c.named_before-compared.new.1.1.0
+  compared : Built zeros 31 (from_compared given2) c.named_before-compared.result c.named_before-compared.new.out
   unfolding octets zeros
   compared = build_on (ended (ended_at c.before)) 30 (omega arith) _ (named_size given2.compared (octets " compared ")) c.named_before-compared.ensures.0 c.named_before-compared.ensures.1
 
@@ -63,7 +63,7 @@ module _ (c : tie.After-named_before-unread) where
   abbrev given3 : Decision
   given3 = given2 (compared_at c.before)
 
-  unread : Built zeros 59 (from_unread given3) c.named_before-unread.result c.named_before-unread.new.1.1.0
+  unread : Built zeros 59 (from_unread given3) c.named_before-unread.result c.named_before-unread.new.out
   unfolding octets zeros
   unread = build_on (compared (compared_at c.before)) 28 (omega arith) _ (named_size given3.unread (octets " unread ")) c.named_before-unread.ensures.0 c.named_before-unread.ensures.1
 
@@ -74,7 +74,7 @@ module _ (c : tie.After-named_before-number) where
   abbrev given4 : Decision
   given4 = given3 (unread-at c.before)
 
-  line : Built zeros 85 (from_line given4) c.named_before-number.result c.named_before-number.new.1.1.0
+  line : Built zeros 85 (from_line given4) c.named_before-number.result c.named_before-number.new.out
   unfolding octets zeros
   line = build_on (unread (unread-at c.before)) 26 (omega arith) _ (named_size given4.line.number (octets " line ")) c.named_before-number.ensures.0 c.named_before-number.ensures.1
 
@@ -83,9 +83,6 @@ line_at c = c.before.before
 
 slice_bounds-text_before-end-2 : tie.Need-slice_bounds-text_before-end-2
 slice_bounds-text_before-end-2 c = search rules
-
-slice-aggregate-text-before-2 : tie.Need-slice-aggregate-text-before-2
-slice-aggregate-text-before-2 c = search rules
 
 text_before-end-requires : tie.Need-text_before-end-requires
 text_before-end-requires c κs = search rules
@@ -103,18 +100,9 @@ named_before-compared-requires c κs = built_room (ended (ended_at c)) 30 (omega
 slice_bounds-named_before-end-6 : tie.Need-slice_bounds-named_before-end-6
 slice_bounds-named_before-end-6 c = search rules
 
-slice-aggregate-named-before-4 : tie.Need-slice-aggregate-named-before-4
-slice-aggregate-named-before-4 c = search rules
-
 named_before-unread-requires : tie.Need-named_before-unread-requires
 unfolding octets zeros
 named_before-unread-requires c κs = built_room (compared (compared_at c)) 28 (omega arith) _ (named_size (given2 (compared_at c)).unread (octets " unread "))
-
-slice-aggregate-named-before-5 : tie.Need-slice-aggregate-named-before-5
-slice-aggregate-named-before-5 c = search rules
-
-slice-aggregate-named-before-6 : tie.Need-slice-aggregate-named-before-6
-slice-aggregate-named-before-6 c = search rules
 
 named_before-number-requires : tie.Need-named_before-number-requires
 unfolding octets zeros

@@ -10,7 +10,7 @@ use Rattle.output.proofs.Decimals.{decimal_size}
 use Rattle.output.proofs.refused_line.Statement.{statement}
 use Rattle.output.proofs.refused_line.Tie as tie
 
-ended : (c : tie.After-text_before-end) → Built zeros 1 (octets "\n") c.text_before-end.result c.text_before-end.new.1.0
+ended : (c : tie.After-text_before-end) → Built zeros 1 (octets "\n") c.text_before-end.result c.text_before-end.new.out
 unfolding octets zeros
 ended c =
     build_on (built_none zeros) 1 (omega arith) (octets "\n") (omega arith) c.text_before-end.ensures.0 c.text_before-end.ensures.1
@@ -22,7 +22,7 @@ module _ (c : tie.After-decimal_before-digits) where
   abbrev number : ℕ
   number = (ended_at c.before).before.before.before.args.number
 
-  numbered : Built zeros 21 (decimal number ++ octets "\n") c.decimal_before-digits.result c.decimal_before-digits.new.1.0
+  numbered : Built zeros 21 (decimal number ++ octets "\n") c.decimal_before-digits.result c.decimal_before-digits.new.out
   unfolding zeros
   numbered =
       build_on (ended (ended_at c.before)) 20 (omega arith) (decimal number) (decimal_size number) c.decimal_before-digits.ensures.0 c.decimal_before-digits.ensures.1
@@ -42,12 +42,6 @@ slice_bounds-decimal_before-end c = search rules
 decimal_before-digits-requires : tie.Need-decimal_before-digits-requires
 unfolding zeros
 decimal_before-digits-requires c κs = built_room (ended (ended_at c)) 20 (omega arith) _ (decimal_size _)
-
-slice-aggregate-text-before-3 : tie.Need-slice-aggregate-text-before-3
-slice-aggregate-text-before-3 c = search rules
-
-slice-aggregate-text-before-4 : tie.Need-slice-aggregate-text-before-4
-slice-aggregate-text-before-4 c = search rules
 
 abbrev numbered-at : tie.After-octets-5-1 → tie.After-decimal_before-digits
 numbered-at c = c.before.before.before.before

@@ -19,7 +19,7 @@ text_before-requires c κs =
     let s = d.before.before.before.before in
     let n = d.decimal_before-digits in (
       omega (arith, s.requires, n.ensures.0, length-append s.args.text.now (decimal s.args.n)),
-      omega (arith, s.requires, n.ensures.0, n.auto.1.0),
+      omega (arith, s.requires, n.ensures.0, n.auto.out),
     )
 
 shape_of-out : tie.Need-shape_of-out

@@ -19,9 +19,6 @@ disallow c = ap side_text c.in-Disallow.is
 enum_told-1 : tie.Need-enum_told-1
 enum_told-1 c = search rules
 
-slice-aggregate-text-before : tie.Need-slice-aggregate-text-before
-slice-aggregate-text-before c = search rules
-
 text_before-requires : tie.Need-text_before-requires
 unfolding octets
 text_before-requires c κs =
@@ -31,9 +28,6 @@ text_before-requires c κs =
 
 enum_told-in-Disallow : tie.Need-enum_told-in-Disallow
 enum_told-in-Disallow c = search rules
-
-slice-aggregate-text-before-2 : tie.Need-slice-aggregate-text-before-2
-slice-aggregate-text-before-2 c = search rules
 
 text_before-requires-in-Disallow : tie.Need-text_before-requires-in-Disallow
 unfolding octets

@@ -1,4 +1,4 @@
--- `output::parts::first_part_lem` meets its contract. Assumes nothing.
+-- `output::parts::first_part` meets its contract. Assumes nothing.
 use mathlib.Core.Path.{sym}
 use native.Mathlib.Omega.{arith}
 use lib.Seq.{length-take-le}
