@@ -3,9 +3,10 @@
 
 #![tactic(auto)]
 
-ghost use Rattle.robots_decide.specs.Inputs.{Fits};
+ghost use Rattle.robots_decide.specs.Inputs.{Fits, Reads};
 
-use libc::{STDIN_FILENO, STDOUT_FILENO};
+use std::io;
+use std::io::{Read, Write};
 
 // What reading came to: so many octets, up to the input's end or the buffer's; or a read failed, and what was read may be only a part.
 #[derive(Drop)]
@@ -16,33 +17,28 @@ enum Input {
 
 // Reads until the input ends, the buffer is full or a read fails. Each result is looked at, since the read after a failed one may say that the
 // input has ended.
-fn read_input(buffer: &mut [u8]) -> Input
-    ensures { Fits result buffer.new }
+fn read_input<R: Read>(reader: &mut R, buffer: &mut [u8]) -> Input
+    ensures fits { Fits result buffer.new }
+    ensures whole { Reads (R.remaining reader.old) (R.remaining reader.new) result buffer.new }
 {
     let mut n = 0;
     while n < buffer.len() {
-        let got = libc::read(STDIN_FILENO, &mut buffer[n..]);
-        if got < 0 {
-            return Input::Failed;
+        match reader.read(&mut buffer[n..]) {
+            Err(_) => return Input::Failed,
+            Ok(0) => return Input::Octets(n),
+            Ok(more) => n += more,
         }
-        let more = io::count(got, &buffer[n..]);
-        if more == 0 {
-            return Input::Octets(n);
-        }
-        n += more;
     }
     Input::Octets(n)
 }
 
-fn main() {
+fn main(rt: HostRuntime) -> io::Result<()> {
     // one octet more than is answered, so that a longer input is seen to be too long
     let mut buffer = [0u8; 65537];
     // nothing is written of an input that couldn't be read
-    let Input::Octets(n) = read_input(&mut buffer) else {
-        return;
+    let Input::Octets(n) = read_input(&mut rt.stdin(), &mut buffer) else {
+        return Ok(());
     };
     let line = decide::program::output(&buffer[..n]);
-    let octets = line.octets;
-    let start = line.start;
-    io::write_all(STDOUT_FILENO, &octets[start..]);
+    rt.stdout().write_all(&line.octets[line.start..])
 }

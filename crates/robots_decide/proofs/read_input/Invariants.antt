@@ -1,0 +1,14 @@
+-- `read_input`: what was read so far stands in the front of the buffer, and each turn reads more.
+use Rattle.std.proofs.Common.{◌≡◌, ◌-◌, ◌≤◌, length, take}
+use Rattle.std.specs.Io.KnownBytes.{Consumes}
+use Rattle.robots_decide.proofs.read_input.Given as goal
+
+abbrev pub invariant-loop-n : goal.invariant-loop-n
+invariant-loop-n g l = record {
+  same_length : length l.buffer ≡ length l.initial.buffer;
+  inside : l.n ≤ length l.buffer;
+  consumed : Consumes (g.R.Read.remaining l.initial.reader) (g.R.Read.remaining l.reader) (take l.n l.buffer);
+}
+
+abbrev pub decreases-loop-n : goal.decreases-loop-n
+decreases-loop-n g l = length l.buffer - l.n
