@@ -4,24 +4,23 @@ use borrow.Author.Rules.{rules}
 use Rattle.rounds.proofs.lead_normal.Statement.{statement}
 use Rattle.rounds.proofs.lead_normal.Tie as tie
 
-is-robots-file-requires : tie.Need-is-robots-file-requires
-is-robots-file-requires c κs = search rules
+is_robots_file-requires : tie.Need-is_robots_file-requires
+is_robots_file-requires c κs = search rules
+
+returns-then-is_robots_file : tie.Need-returns-then-is_robots_file
+returns-then-is_robots_file c = (rw (sym c.before.is_robots_file.ensures ∙ c.if-is_robots_file.true), refl)
+
+lead_all-requires : tie.Need-lead_all-requires
+lead_all-requires c κs = search rules
+
+shape_of-scratch : tie.Need-shape_of-scratch
+shape_of-scratch c = search rules
 
 returns : tie.Need-returns
-returns c = (rw (sym c.before.is-robots-file.ensures ∙ c.if1.true), refl)
-
-lead-all-requires : tie.Need-lead-all-requires
-lead-all-requires c κs = search rules
-
-same_length : tie.Need-same-length
-same_length c = search rules
-
-returns-2 : tie.Need-returns-2
-returns-2 c =
+returns c =
     let l = c.before.before in
     let e = l.before.before in
-    (l.lead-all.ensures.0 ∙ rw (sym e.before.is-robots-file.ensures ∙ e.if1.false), l.lead-all.ensures.1)
+    (l.lead_all.ensures.0 ∙ rw (sym e.before.is_robots_file.ensures ∙ e.if-is_robots_file.false), l.lead_all.ensures.1)
 
-pub lead-normal-spec : {M : Type 1} → statement M
-lead-normal-spec =
-    tie.close (tie.spec is-robots-file-requires returns lead-all-requires same_length returns-2)
+pub lead_normal_spec : {M : Type 1} → statement M
+lead_normal_spec = tie.close (tie.spec is_robots_file-requires returns-then-is_robots_file lead_all-requires shape_of-scratch returns)

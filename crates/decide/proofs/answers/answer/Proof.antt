@@ -14,10 +14,10 @@ use Rattle.decide.proofs.Refusing as refusing
 use Rattle.decide.proofs.answers.answer.Statement.{statement}
 use Rattle.decide.proofs.answers.answer.Tie as tie
 
-may-change-requires : tie.Need-may-change-requires
-may-change-requires c κs = search rules
+may_change-requires : tie.Need-may_change-requires
+may_change-requires c κs = search rules
 
-module _ (c : tie.After-may-change) where
+module _ (c : tie.After-may_change) where
   abbrev start : tie.Start
   start = c.before.before.before.before
 
@@ -31,61 +31,50 @@ module _ (c : tie.After-may-change) where
   path = start.args.path.now
 
   short_file : length file ≤ 512_000
-  short_file = refusing.short-file file name path start.pre.1
+  short_file = refusing.short_file file name path start.requires.1
 
   short_path : length path ≤ 2_048
-  short_path = refusing.short-path file name path start.pre.1
+  short_path = refusing.short_path file name path start.requires.1
 
   path_fits : length (normal_path path) ≤ 6_142
-  path_fits = refusing.path-fits file name path start.pre.1
+  path_fits = refusing.path_fits file name path start.requires.1
 
   three-each : length (normal_path path) ≤ 3 * length path
   unfolding normal_path
   three-each = normal_size false 0 path
 
-  unchanged : not c.may-change.result ≡ true → normal_path path ≡ path
-  unchanged h = kept_path path (sym c.may-change.ensures ∙ not-true _ h)
+  unchanged : c.may_change.result ≡ false → normal_path path ≡ path
+  unchanged h = kept_path path (sym c.may_change.ensures ∙ h)
 
-answer-unchanged-requires : tie.Need-answer-unchanged-requires
-answer-unchanged-requires c κs = (search rules, short_file c.before, short_path c.before)
+answer_unchanged-requires : tie.Need-answer_unchanged-requires
+answer_unchanged-requires c κs = (search rules, short_file c.before, short_path c.before)
 
-returns : tie.Need-returns
-returns c = c.answer-unchanged.ensures ∙ rw (unchanged c.before.before c.before.if1.true)
+returns-then-not-may_change : tie.Need-returns-then-not-may_change
+returns-then-not-may_change c = c.answer_unchanged.ensures ∙ rw (unchanged c.before.before c.before.if-not-may_change.true)
 
-answer-short-requires : tie.Need-answer-short-requires
-answer-short-requires c κs =
+answer_short-requires : tie.Need-answer_short-requires
+answer_short-requires c κs =
     let t = c.before.before in
-    (search rules, short_file t, omega (arith, c.if2.true, three-each t))
+    (search rules, short_file t, omega (arith, c.if-path-le128.true, three-each t))
 
-returns-2 : tie.Need-returns-2
-returns-2 c = search rules
+returns-then-path-le128 : tie.Need-returns-then-path-le128
+returns-then-path-le128 c = search rules
 
-answer-middle-requires : tie.Need-answer-middle-requires
-answer-middle-requires c κs =
+answer_middle-requires : tie.Need-answer_middle-requires
+answer_middle-requires c κs =
     let t = c.before.before.before in
-    (search rules, short_file t, omega (arith, c.if3.true, three-each t))
+    (search rules, short_file t, omega (arith, c.if-path-le512.true, three-each t))
 
-returns-3 : tie.Need-returns-3
-returns-3 c = search rules
+returns-then-path-le512 : tie.Need-returns-then-path-le512
+returns-then-path-le512 c = search rules
 
-answer-long-requires : tie.Need-answer-long-requires
-answer-long-requires c κs =
+answer_long-requires : tie.Need-answer_long-requires
+answer_long-requires c κs =
     let t = c.before.before.before in
     (search rules, short_file t, path_fits t)
 
-returns-4 : tie.Need-returns-4
-returns-4 c = search rules
+returns : tie.Need-returns
+returns c = search rules
 
-pub answer-spec : {M : Type 1} → statement M
-answer-spec =
-    tie.close
-    (tie.spec
-    may-change-requires
-    answer-unchanged-requires
-    returns
-    answer-short-requires
-    returns-2
-    answer-middle-requires
-    returns-3
-    answer-long-requires
-    returns-4)
+pub answer_spec : {M : Type 1} → statement M
+answer_spec = tie.close (tie.spec may_change-requires answer_unchanged-requires returns-then-not-may_change answer_short-requires returns-then-path-le128 answer_middle-requires returns-then-path-le512 answer_long-requires returns)

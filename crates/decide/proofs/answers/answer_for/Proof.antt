@@ -11,11 +11,11 @@ use Rattle.decide.proofs.Telling.{gathered_told}
 use Rattle.decide.proofs.answers.answer_for.Statement.{statement}
 use Rattle.decide.proofs.answers.answer_for.Tie as tie
 
-audience-for-requires : tie.Need-audience-for-requires
-audience-for-requires c κs = search rules
+audience_for-chosen-requires : tie.Need-audience_for-chosen-requires
+audience_for-chosen-requires c κs = search rules
 
 -- those whose groups apply
-module _ (c : tie.After-audience-for) where
+module _ (c : tie.After-audience_for-chosen) where
   abbrev start : tie.Start
   start = c.before.before.before.before.before
 
@@ -25,17 +25,17 @@ module _ (c : tie.After-audience-for) where
   abbrev name : List ℕ
   name = start.args.name.now
 
-  own : ChosenOf file name c.audience-for.result.audience c.audience-for.result
-  own = chosen_own file name _ _ c.audience-for.ensures
+  own : ChosenOf file name c.audience_for-chosen.result.audience c.audience_for-chosen.result
+  own = chosen_own file name _ _ c.audience_for-chosen.ensures
 
-gather-requires : tie.Need-gather-requires
-gather-requires c κs = let p = (start c.before).pre in (p.0, own c.before, p.1, p.2, p.3)
+gather-g-requires : tie.Need-gather-g-requires
+gather-g-requires c κs = let p = (start c.before).requires in (p.0, own c.before, p.1, p.2, p.3)
 
 conclude-requires : tie.Need-conclude-requires
 conclude-requires c κs = search rules
 
-same_length : tie.Need-same-length
-same_length c = search rules
+shape_of-scratch : tie.Need-shape_of-scratch
+shape_of-scratch c = search rules
 
 returns : tie.Need-returns
 returns c =
@@ -43,10 +43,8 @@ returns c =
     let w = g.before.before in
     let a = (start w).args in
     c.conclude.ensures
-    ∙ gathered_told a.dialect a.file.now a.name.now a.path.now a.whole g.gather.result
-    (g.gather.ensures.0 ∙ ap (λ (x : Audience). passes.told a.whole (passes.gathered a.dialect a.file.now a.name.now x a.path.now)) w.audience-for.ensures.audience)
+    ∙ gathered_told a.dialect a.file.now a.name.now a.path.now a.whole g.gather-g.result
+    (g.gather-g.ensures.0 ∙ ap (λ (x : Audience). passes.told a.whole (passes.gathered a.dialect a.file.now a.name.now x a.path.now)) w.audience_for-chosen.ensures.audience)
 
-pub answer-for-spec : {M : Type 1} → statement M
-answer-for-spec =
-    tie.close
-    (tie.spec audience-for-requires gather-requires conclude-requires same_length returns)
+pub answer_for_spec : {M : Type 1} → statement M
+answer_for_spec = tie.close (tie.spec audience_for-chosen-requires gather-g-requires conclude-requires shape_of-scratch returns)

@@ -6,23 +6,22 @@ use Rattle.passes.proofs.Choices.{chosen_nobody}
 use Rattle.decide.proofs.answers.audience_for.Statement.{statement}
 use Rattle.decide.proofs.answers.audience_for.Tie as tie
 
-is-robots-file-requires : tie.Need-is-robots-file-requires
-is-robots-file-requires c κs = search rules
+is_robots_file-requires : tie.Need-is_robots_file-requires
+is_robots_file-requires c κs = search rules
+
+returns-then-is_robots_file : tie.Need-returns-then-is_robots_file
+unfolding audience_for
+returns-then-is_robots_file c =
+    let r = c.before in
+    let a = r.before.before.before.before.args in
+    chosen_nobody a.file.now a.name.now _ _ refl (rw (sym r.is_robots_file.ensures ∙ c.if-is_robots_file.true)) refl refl
+
+choose_audience-requires : tie.Need-choose_audience-requires
+choose_audience-requires c κs = search rules
 
 returns : tie.Need-returns
 unfolding audience_for
-returns c =
-    let r = c.before in
-    let a = r.before.before.before.before.args in
-    chosen_nobody a.file.now a.name.now _ _ refl (rw (sym r.is-robots-file.ensures ∙ c.if1.true)) refl refl
+returns c = rw (sym c.before.before.is_robots_file.ensures ∙ c.before.if-is_robots_file.false) c.choose_audience.ensures
 
-choose-audience-requires : tie.Need-choose-audience-requires
-choose-audience-requires c κs = search rules
-
-returns-2 : tie.Need-returns-2
-unfolding audience_for
-returns-2 c = rw (sym c.before.before.is-robots-file.ensures ∙ c.before.if1.false) c.choose-audience.ensures
-
-pub audience-for-spec : {M : Type 1} → statement M
-audience-for-spec =
-    tie.close (tie.spec is-robots-file-requires returns choose-audience-requires returns-2)
+pub audience_for_spec : {M : Type 1} → statement M
+audience_for_spec = tie.close (tie.spec is_robots_file-requires returns-then-is_robots_file choose_audience-requires returns)

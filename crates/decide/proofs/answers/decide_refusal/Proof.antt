@@ -10,7 +10,7 @@ use Rattle.decide.proofs.answers.decide_refusal.Statement.{statement}
 use Rattle.decide.proofs.answers.decide_refusal.Tie as tie
 
 -- the question's arguments, and the dialect first
-module _ (c : tie.Else1) where
+module _ (c : tie.Else-dialect-gt1) where
   abbrev start : tie.Start
   start = c.before.before.before.before
 
@@ -24,34 +24,32 @@ module _ (c : tie.Else1) where
   path = start.args.path.now
 
   rows : decide_refusal start.args.dialect file name path ≡ refusal (question_rows file name path)
-  rows = known_rows file name path start.args.dialect c.if1.false
+  rows = known_rows file name path start.args.dialect c.if-dialect-gt1.false
 
-returns : tie.Need-returns
-returns c = let a = c.before.before.before.before.args in sym (unknown_rows a.file.now a.name.now a.path.now a.dialect c.if1.true)
+returns-then-dialect-gt1 : tie.Need-returns-then-dialect-gt1
+returns-then-dialect-gt1 c = let a = c.before.before.before.before.args in sym (unknown_rows a.file.now a.name.now a.path.now a.dialect c.if-dialect-gt1.true)
 
-returns-2 : tie.Need-returns-2
-returns-2 c = let e = c.before in sym (rows e ∙ too_long_lem (file e) (bad_name (name e) ∷ path_rows (path e)) c.if2.true)
+returns-then-file-gt512000 : tie.Need-returns-then-file-gt512000
+returns-then-file-gt512000 c = let e = c.before in sym (rows e ∙ too_long_lem (file e) (bad_name (name e) ∷ path_rows (path e)) c.if-file-gt512000.true)
 
-is-bad-name-requires : tie.Need-is-bad-name-requires
-is-bad-name-requires c κs = search rules
+is_bad_name-requires : tie.Need-is_bad_name-requires
+is_bad_name-requires c κs = search rules
 
-returns-3 : tie.Need-returns-3
-returns-3 c =
+returns-then-is_bad_name : tie.Need-returns-then-is_bad_name
+returns-then-is_bad_name c =
     let l = c.before.before in
     let e = l.before in
-    sym (rows e ∙ bad_name_lem (file e) (name e) (path e) l.if2.false (sym c.before.is-bad-name.ensures ∙ c.if3.true))
+    sym (rows e ∙ bad_name_lem (file e) (name e) (path e) l.if-file-gt512000.false (sym c.before.is_bad_name.ensures ∙ c.if-is_bad_name.true))
 
-path-refusal-requires : tie.Need-path-refusal-requires
-path-refusal-requires c κs = search rules
+path_refusal-requires : tie.Need-path_refusal-requires
+path_refusal-requires c κs = search rules
 
-returns-4 : tie.Need-returns-4
-returns-4 c =
+returns : tie.Need-returns
+returns c =
     let l = c.before.before.before in
     let e = l.before in
-    c.path-refusal.ensures
-    ∙ sym (rows e ∙ good_name (file e) (name e) (path e) l.if2.false (sym c.before.before.is-bad-name.ensures ∙ c.before.if3.false))
+    c.path_refusal.ensures
+    ∙ sym (rows e ∙ good_name (file e) (name e) (path e) l.if-file-gt512000.false (sym c.before.before.is_bad_name.ensures ∙ c.before.if-is_bad_name.false))
 
-pub decide-refusal-spec : {M : Type 1} → statement M
-decide-refusal-spec =
-    tie.close
-    (tie.spec returns returns-2 is-bad-name-requires returns-3 path-refusal-requires returns-4)
+pub decide_refusal_spec : {M : Type 1} → statement M
+decide_refusal_spec = tie.close (tie.spec returns-then-dialect-gt1 returns-then-file-gt512000 is_bad_name-requires returns-then-is_bad_name path_refusal-requires returns)

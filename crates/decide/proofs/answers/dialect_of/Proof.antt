@@ -4,13 +4,13 @@ use Rattle.protocol.specs.Refusals.{dialect_of}
 use Rattle.decide.proofs.answers.dialect_of.Statement.{statement}
 use Rattle.decide.proofs.answers.dialect_of.Tie as tie
 
+returns-then-number-eq1 : tie.Need-returns-then-number-eq1
+unfolding dialect_of
+returns-then-number-eq1 c = rw (eq-eqb _ 1 c.if-number-eq1.true)
+
 returns : tie.Need-returns
 unfolding dialect_of
-returns c = rw (eq-eqb _ 1 c.if1.true)
+returns c = rw (ne_eqb _ 1 c.if-number-eq1.false)
 
-returns-2 : tie.Need-returns-2
-unfolding dialect_of
-returns-2 c = rw (ne_eqb _ 1 c.if1.false)
-
-pub dialect-of-spec : {M : Type 1} → statement M
-dialect-of-spec = tie.close (tie.spec returns returns-2)
+pub dialect_of_spec : {M : Type 1} → statement M
+dialect_of_spec = tie.close (tie.spec returns-then-number-eq1 returns)
