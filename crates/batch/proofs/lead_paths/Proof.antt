@@ -8,43 +8,43 @@ use Rattle.batch.proofs.Answering.{round_applying}
 use Rattle.batch.proofs.lead_paths.Statement.{statement}
 use Rattle.batch.proofs.lead_paths.Tie as tie
 
-choose-audience-requires : tie.Need-choose-audience-requires
-choose-audience-requires c κs = search rules
+choose_audience-chosen-requires : tie.Need-choose_audience-chosen-requires
+choose_audience-chosen-requires c κs = search rules
 
-slice-aggregate-whom : tie.Need-slice-aggregate-whom
-slice-aggregate-whom c = search rules
+slice_bounds-whom-end : tie.Need-slice_bounds-whom-end
+slice_bounds-whom-end c = search rules
 
 whom-requires : tie.Need-whom-requires
 unfolding octets
 whom-requires c κs = refl
 
-slice-aggregate-rounds : tie.Need-slice-aggregate-rounds
-slice-aggregate-rounds c = search rules
+slice_bounds-rounds-end : tie.Need-slice_bounds-rounds-end
+slice_bounds-rounds-end c = search rules
 
-slice-aggregate-rounds-2 : tie.Need-slice-aggregate-rounds-2
-slice-aggregate-rounds-2 c = search rules
+slice_bounds-rounds-end-2 : tie.Need-slice_bounds-rounds-end-2
+slice_bounds-rounds-end-2 c = search rules
 
-slice-aggregate-rounds-3 : tie.Need-slice-aggregate-rounds-3
-slice-aggregate-rounds-3 c = search rules
+slice_bounds-rounds-end-3 : tie.Need-slice_bounds-rounds-end-3
+slice_bounds-rounds-end-3 c = search rules
 
 -- whose groups apply
-module _ (c : tie.After-choose-audience) where
+module _ (c : tie.After-choose_audience-chosen) where
   abbrev given : tie.Start
   given = c.before.before.before.before.before.before.before.before
 
 rounds-requires : tie.Need-rounds-requires
 rounds-requires c κs =
-    let p = (given c.before.before.before.before.before.before.before.before).pre in
+    let p = (given c.before.before.before.before.before.before.before.before).requires in
     (p.0, p.1, p.2, omega arith, refl, refl, p.3)
 
-same_length : tie.Need-same-length
-same_length c = search rules
+shape_of-refusals : tie.Need-shape_of-refusals
+shape_of-refusals c = search rules
 
-same-length-2 : tie.Need-same-length-2
-same-length-2 c = search rules
+shape_of-sides : tie.Need-shape_of-sides
+shape_of-sides c = search rules
 
-same-length-3 : tie.Need-same-length-3
-same-length-3 c = search rules
+shape_of-lines : tie.Need-shape_of-lines
+shape_of-lines c = search rules
 
 returns : tie.Need-returns
 returns c =
@@ -52,20 +52,7 @@ returns c =
     let w = r.before.before.before.before.before.before.before in
     let k = w.before.before in
     let a = (given k).args in
-    round_applying a.dialect a.file.now a.name.now a.paths.now a.ends.now (memory a.refusals.now a.sides.now a.lines.now) _ _ k.choose-audience.ensures.audience _ w.whom.ensures r.rounds.ensures
+    round_applying a.dialect a.file.now a.name.now a.paths.now a.ends.now (memory a.refusals.now a.sides.now a.lines.now) _ _ k.choose_audience-chosen.ensures.audience _ w.whom.ensures r.rounds.ensures
 
-pub lead-paths-spec : {M : Type 1} → statement M
-lead-paths-spec =
-    tie.close
-    (tie.spec
-    choose-audience-requires
-    slice-aggregate-whom
-    whom-requires
-    slice-aggregate-rounds
-    slice-aggregate-rounds-2
-    slice-aggregate-rounds-3
-    rounds-requires
-    same_length
-    same-length-2
-    same-length-3
-    returns)
+pub lead_paths_spec : {M : Type 1} → statement M
+lead_paths_spec = tie.close (tie.spec choose_audience-chosen-requires slice_bounds-whom-end whom-requires slice_bounds-rounds-end slice_bounds-rounds-end-2 slice_bounds-rounds-end-3 rounds-requires shape_of-refusals shape_of-sides shape_of-lines returns)
