@@ -8,20 +8,20 @@ use Rattle.batch.specs.Asked.{asked}
 use Rattle.robots.proofs.robots_batch.Statement.{statement}
 use Rattle.robots.proofs.robots_batch.Tie as tie
 
-classes-requires : tie.Need-classes-requires
-classes-requires c κs = search rules
+classes-classes-requires : tie.Need-classes-classes-requires
+classes-classes-requires c κs = search rules
 
 batch-requires : tie.Need-batch-requires
 batch-requires c κs = search rules
 
-same_length : tie.Need-same-length
-same_length c = search rules
+shape_of-refusals : tie.Need-shape_of-refusals
+shape_of-refusals c = search rules
 
-same-length-2 : tie.Need-same-length-2
-same-length-2 c = search rules
+shape_of-sides : tie.Need-shape_of-sides
+shape_of-sides c = search rules
 
-same-length-3 : tie.Need-same-length-3
-same-length-3 c = search rules
+shape_of-lines : tie.Need-shape_of-lines
+shape_of-lines c = search rules
 
 -- behind the call
 module _ (c : tie.After-batch) where
@@ -36,7 +36,5 @@ returns c =
     let e = k.batch.ensures in
     (e.0, (subst (ByTable (batch_rows (asks k))) (sym e.0) (batch_by_table (asks k)), e.1))
 
-pub robots-batch-spec : {M : Type 1} → statement M
-robots-batch-spec =
-    tie.close
-    (tie.spec classes-requires batch-requires same_length same-length-2 same-length-3 returns)
+pub robots_batch_spec : {M : Type 1} → statement M
+robots_batch_spec = tie.close (tie.spec classes-classes-requires batch-requires shape_of-refusals shape_of-sides shape_of-lines returns)

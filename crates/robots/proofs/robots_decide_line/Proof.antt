@@ -5,14 +5,14 @@ use Rattle.protocol.specs.declared.Decision.{Decision}
 use Rattle.robots.proofs.robots_decide_line.Statement.{statement}
 use Rattle.robots.proofs.robots_decide_line.Tie as tie
 
-classes-requires : tie.Need-classes-requires
-classes-requires c κs = tt
+classes-classes-requires : tie.Need-classes-classes-requires
+classes-classes-requires c κs = tt
 
-decide-requires : tie.Need-decide-requires
-decide-requires c κs = search rules
+decide-answer-requires : tie.Need-decide-answer-requires
+decide-answer-requires c κs = search rules
 
 returns : tie.Need-returns
-returns c = ap (λ (d : Decision). d.line.number) c.decide.ensures
+returns c = ap (λ (d : Decision). d.line.number) c.decide-answer.ensures
 
-pub robots-decide-line-spec : {M : Type 1} → statement M
-robots-decide-line-spec = tie.close (tie.spec classes-requires decide-requires returns)
+pub robots_decide_line_spec : {M : Type 1} → statement M
+robots_decide_line_spec = tie.close (tie.spec classes-classes-requires decide-answer-requires returns)

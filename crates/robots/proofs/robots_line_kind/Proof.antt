@@ -5,17 +5,17 @@ use Rattle.protocol.specs.Answers.{kind_number_of}
 use Rattle.robots.proofs.robots_line_kind.Statement.{statement}
 use Rattle.robots.proofs.robots_line_kind.Tie as tie
 
-classes-requires : tie.Need-classes-requires
-classes-requires c κs = tt
+classes-classes-requires : tie.Need-classes-classes-requires
+classes-classes-requires c κs = tt
 
-line-answer-requires : tie.Need-line-answer-requires
-line-answer-requires c κs = search rules
+line_answer-answer-requires : tie.Need-line_answer-answer-requires
+line_answer-answer-requires c κs = search rules
 
-kind-number-of-requires : tie.Need-kind-number-of-requires
-kind-number-of-requires c κs = tt
+kind_number_of-requires : tie.Need-kind_number_of-requires
+kind_number_of-requires c κs = tt
 
 returns : tie.Need-returns
-returns c = c.kind-number-of.ensures ∙ ap kind_number_of c.before.line-answer.ensures
+returns c = c.kind_number_of.ensures ∙ ap kind_number_of c.before.line_answer-answer.ensures
 
-pub robots-line-kind-spec : {M : Type 1} → statement M
-robots-line-kind-spec = tie.close (tie.spec classes-requires line-answer-requires kind-number-of-requires returns)
+pub robots_line_kind_spec : {M : Type 1} → statement M
+robots_line_kind_spec = tie.close (tie.spec classes-classes-requires line_answer-answer-requires kind_number_of-requires returns)

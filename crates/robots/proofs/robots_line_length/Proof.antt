@@ -5,17 +5,17 @@ use Rattle.protocol.specs.Answers.{value_length}
 use Rattle.robots.proofs.robots_line_length.Statement.{statement}
 use Rattle.robots.proofs.robots_line_length.Tie as tie
 
-classes-requires : tie.Need-classes-requires
-classes-requires c κs = tt
+classes-classes-requires : tie.Need-classes-classes-requires
+classes-classes-requires c κs = tt
 
-line-answer-requires : tie.Need-line-answer-requires
-line-answer-requires c κs = search rules
+line_answer-answer-requires : tie.Need-line_answer-answer-requires
+line_answer-answer-requires c κs = search rules
 
-value-length-requires : tie.Need-value-length-requires
-value-length-requires c κs = tt
+value_length-requires : tie.Need-value_length-requires
+value_length-requires c κs = tt
 
 returns : tie.Need-returns
-returns c = c.value-length.ensures ∙ ap value_length c.before.line-answer.ensures
+returns c = c.value_length.ensures ∙ ap value_length c.before.line_answer-answer.ensures
 
-pub robots-line-length-spec : {M : Type 1} → statement M
-robots-line-length-spec = tie.close (tie.spec classes-requires line-answer-requires value-length-requires returns)
+pub robots_line_length_spec : {M : Type 1} → statement M
+robots_line_length_spec = tie.close (tie.spec classes-classes-requires line_answer-answer-requires value_length-requires returns)

@@ -7,18 +7,18 @@ use Rattle.protocol.specs.Answers.{value_place}
 use Rattle.robots.proofs.robots_line_place.Statement.{statement}
 use Rattle.robots.proofs.robots_line_place.Tie as tie
 
-classes-requires : tie.Need-classes-requires
-classes-requires c κs = tt
+classes-classes-requires : tie.Need-classes-classes-requires
+classes-classes-requires c κs = tt
 
-line-answer-requires : tie.Need-line-answer-requires
-line-answer-requires c κs = search rules
+line_answer-answer-requires : tie.Need-line_answer-answer-requires
+line_answer-answer-requires c κs = search rules
 
-value-place-requires : tie.Need-value-place-requires
-value-place-requires c κs = tt
+value_place-place-requires : tie.Need-value_place-place-requires
+value_place-place-requires c κs = tt
 
 returns : tie.Need-returns
 returns c =
-    ap (λ (p : Place). p.offset) c.value-place.ensures ∙ ap (λ (a : LineAnswer). (value_place a).offset) c.before.line-answer.ensures
+    ap (λ (p : Place). p.offset) c.value_place-place.ensures ∙ ap (λ (a : LineAnswer). (value_place a).offset) c.before.line_answer-answer.ensures
 
-pub robots-line-place-spec : {M : Type 1} → statement M
-robots-line-place-spec = tie.close (tie.spec classes-requires line-answer-requires value-place-requires returns)
+pub robots_line_place_spec : {M : Type 1} → statement M
+robots_line_place_spec = tie.close (tie.spec classes-classes-requires line_answer-answer-requires value_place-place-requires returns)

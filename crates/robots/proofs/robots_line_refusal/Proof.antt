@@ -4,16 +4,16 @@ use borrow.Author.Rules.{rules}
 use Rattle.robots.proofs.robots_line_refusal.Statement.{statement}
 use Rattle.robots.proofs.robots_line_refusal.Tie as tie
 
-classes-requires : tie.Need-classes-requires
-classes-requires c κs = tt
+classes-classes-requires : tie.Need-classes-classes-requires
+classes-classes-requires c κs = tt
 
-line-refusal-requires : tie.Need-line-refusal-requires
-line-refusal-requires c κs = search rules
+line_refusal-requires : tie.Need-line_refusal-requires
+line_refusal-requires c κs = search rules
 
 returns : tie.Need-returns
 returns c =
     let a = c.before.before.before.before.args in
-    (c.line-refusal.ensures, rw c.line-refusal.ensures (line_by_table a.line.now))
+    (c.line_refusal.ensures, rw c.line_refusal.ensures (line_by_table a.line.now))
 
-pub robots-line-refusal-spec : {M : Type 1} → statement M
-robots-line-refusal-spec = tie.close (tie.spec classes-requires line-refusal-requires returns)
+pub robots_line_refusal_spec : {M : Type 1} → statement M
+robots_line_refusal_spec = tie.close (tie.spec classes-classes-requires line_refusal-requires returns)

@@ -5,13 +5,13 @@ use Rattle.protocol.proofs.MatchAnswer.{match_bound}
 use Rattle.robots.proofs.robots_match_compared.Statement.{statement}
 use Rattle.robots.proofs.robots_match_compared.Tie as tie
 
-match-pattern-requires : tie.Need-match-pattern-requires
-match-pattern-requires c κs = tt
+match_pattern-answer-requires : tie.Need-match_pattern-answer-requires
+match_pattern-answer-requires c κs = tt
 
 returns : tie.Need-returns
 returns c =
     let a = c.before.before.before.args in
-    (ap (λ (m : Matched). m.compared) c.match-pattern.ensures, rw c.match-pattern.ensures (match_bound a.pattern.now a.path.now))
+    (ap (λ (m : Matched). m.compared) c.match_pattern-answer.ensures, rw c.match_pattern-answer.ensures (match_bound a.pattern.now a.path.now))
 
-pub robots-match-compared-spec : {M : Type 1} → statement M
-robots-match-compared-spec = tie.close (tie.spec match-pattern-requires returns)
+pub robots_match_compared_spec : {M : Type 1} → statement M
+robots_match_compared_spec = tie.close (tie.spec match_pattern-answer-requires returns)

@@ -14,8 +14,8 @@ use Rattle.protocol.proofs.MatchAnswer.{match_number}
 use Rattle.robots.proofs.robots_match_found.Statement.{statement}
 use Rattle.robots.proofs.robots_match_found.Tie as tie
 
-match-pattern-requires : tie.Need-match-pattern-requires
-match-pattern-requires c κs = tt
+match_pattern-answer-requires : tie.Need-match_pattern-answer-requires
+match_pattern-answer-requires c κs = tt
 
 -- the answer's number, and what it says
 told : (pattern path : List ℕ) (m : Matched) (b : Bool) → m ≡ match_of pattern path → m.found ≡ b
@@ -25,15 +25,15 @@ told pattern path m b h f =
     let e : found_number b ≡ found_number (match_of pattern path).found = ap found_number (sym f ∙ ap (λ (x : Matched). x.found) h) in
     (e, λ z. subst⁻¹ (λ (n : ℕ). (n ≡ 1) ↔ Matches (shape_of pattern) (normal_path path)) e (match_number pattern path z))
 
-returns : tie.Need-returns
-returns c =
+returns-then-answer : tie.Need-returns-then-answer
+returns-then-answer c =
     let a = c.before.before.before.before.args in
-    told a.pattern.now a.path.now c.before.match-pattern.result _ c.before.match-pattern.ensures c.if1.true
+    told a.pattern.now a.path.now c.before.match_pattern-answer.result _ c.before.match_pattern-answer.ensures c.if-answer.true
 
-returns-2 : tie.Need-returns-2
-returns-2 c =
+returns-else-answer : tie.Need-returns-else-answer
+returns-else-answer c =
     let a = c.before.before.before.before.args in
-    told a.pattern.now a.path.now c.before.match-pattern.result _ c.before.match-pattern.ensures c.if1.false
+    told a.pattern.now a.path.now c.before.match_pattern-answer.result _ c.before.match_pattern-answer.ensures c.if-answer.false
 
-pub robots-match-found-spec : {M : Type 1} → statement M
-robots-match-found-spec = tie.close (tie.spec match-pattern-requires returns returns-2)
+pub robots_match_found_spec : {M : Type 1} → statement M
+robots_match_found_spec = tie.close (tie.spec match_pattern-answer-requires returns-then-answer returns-else-answer)

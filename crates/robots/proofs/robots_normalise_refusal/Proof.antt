@@ -4,13 +4,13 @@ use borrow.Author.Rules.{rules}
 use Rattle.robots.proofs.robots_normalise_refusal.Statement.{statement}
 use Rattle.robots.proofs.robots_normalise_refusal.Tie as tie
 
-normalise-refusal-requires : tie.Need-normalise-refusal-requires
-normalise-refusal-requires c κs = search rules
+normalise_refusal-requires : tie.Need-normalise_refusal-requires
+normalise_refusal-requires c κs = search rules
 
 returns : tie.Need-returns
 returns c =
     let a = c.before.before.args in
-    (c.normalise-refusal.ensures, rw c.normalise-refusal.ensures (normalise_refusal_by_table a.room a.path.now))
+    (c.normalise_refusal.ensures, rw c.normalise_refusal.ensures (normalise_refusal_by_table a.room a.path.now))
 
-pub robots-normalise-refusal-spec : {M : Type 1} → statement M
-robots-normalise-refusal-spec = tie.close (tie.spec normalise-refusal-requires returns)
+pub robots_normalise_refusal_spec : {M : Type 1} → statement M
+robots_normalise_refusal_spec = tie.close (tie.spec normalise_refusal-requires returns)
