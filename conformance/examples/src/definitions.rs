@@ -18,8 +18,8 @@ const FILES: [&str; 4] = [
 /// two to an `exchange_row`, one to any other.
 pub const SORTS: [(&str, usize); 14] = [
     ("row", 87),
-    ("rowIn", 15),
-    ("rowBy", 19),
+    ("row_in", 15),
+    ("row_by", 19),
     ("draft_row", 17),
     ("path_row", 16),
     ("sizes", 4),
@@ -164,11 +164,11 @@ fn question(sort: &str, rest: &mut Scanner) -> Asked {
             let file = rest.text_of_lines();
             decide(rest, RFC9309, file)
         }
-        "rowIn" => {
+        "row_in" => {
             let file = rest.octets();
             decide(rest, RFC9309, file)
         }
-        "rowBy" => {
+        "row_by" => {
             let (dialect, file) = (rest.number(), rest.text_of_lines());
             decide(rest, dialect, file)
         }

@@ -128,7 +128,7 @@ fn the_list_shows_where_the_dialects_differ() {
         _ => false,
     };
     let rows = definition_rows().into_iter();
-    let rows = rows.filter(|row| row.sort == "rowBy" && known(&row.asked));
+    let rows = rows.filter(|row| row.sort == "row_by" && known(&row.asked));
     let rows: Vec<Asked> = rows.map(|row| row.asked).collect();
     let due: Vec<String> = rows.chunks(2).map(both_shown).collect();
     assert_eq!(listed.collect::<Vec<_>>(), due);

@@ -262,9 +262,9 @@ fn rows_of_lists_are_read_with_their_names() {
 #[test]
 fn faults_of_names() {
     // a name, or the text that rows share, isn't defined
-    list_fault("\nforOne", "\nforTwo", "( expected at: for_one");
-    list_fault("\nninePaths", "\nnineFile", "\" expected at: nine_paths");
-    list_fault("\nrefusedList", "\nlist", "\" expected at: 20 2");
+    list_fault("\nfor_one", "\nfor_two", "( expected at: for_one");
+    list_fault("\nnine_paths", "\nnine_file", "\" expected at: nine_paths");
+    list_fault("\nrefused_list", "\nlist", "\" expected at: 20 2");
     list_fault("\"a:|b\"", "f", "\" expected at: 20 2");
     // or is something else
     list_fault("= 1 ∷ 3 ∷ []", "= 1 ∷ 3", "∷ expected at: )");
