@@ -241,13 +241,16 @@ fn statement(index: usize, cases: &[String]) -> String {
     )
 }
 
+/// All but the folders out/, in which rt keeps its work.
 fn copy(from: &Path, to: &Path) {
     fs::create_dir_all(to).expect("a folder can be made");
     for entry in fs::read_dir(from).expect("a folder can be read") {
         let entry = entry.expect("an entry can be read");
         let target = to.join(entry.file_name());
         if entry.path().is_dir() {
-            copy(&entry.path(), &target);
+            if entry.file_name() != "out" {
+                copy(&entry.path(), &target);
+            }
         } else {
             fs::copy(entry.path(), target).expect("a file can be copied");
         }
@@ -278,7 +281,8 @@ fn repository(proofs: &str) -> Folder {
         copy(&crates.join(name), &folder.0.join("crates").join(name));
     }
     let cases = folder.0.join("crates/cases");
-    write(cases.join("src/lib.rt"), "// Generated cases.\n");
+    let root = "// Generated cases.\n\n#![tactic(auto)]\n";
+    write(cases.join("src/lib.rt"), root);
     write(cases.join("proofs/Lib.antt"), "pub mod Generated\n");
     write(cases.join("proofs/Generated.antt"), proofs);
     let listed = "lists:\nprotocol: lists\ncases: lists protocol\n";
@@ -301,10 +305,10 @@ fn the_definitions_compute_what_the_evaluator_answers() {
     let proofs: String = statements.map(|(at, some)| statement(at, some)).collect();
     let folder = repository(&format!("{HEAD}{proofs}"));
     let run = Command::new("rt")
-        .args(["check", "cases"])
-        .current_dir(&folder.0)
+        .arg("check")
+        .current_dir(folder.0.join("crates/cases"))
         .output()
         .expect("rt can be run");
     let said = String::from_utf8_lossy(&run.stdout) + String::from_utf8_lossy(&run.stderr);
-    assert!(run.status.success(), "rt check cases: {said}");
+    assert!(run.status.success(), "rt check in crates/cases: {said}");
 }
