@@ -5,29 +5,30 @@ PREFIX = /usr/local
 DESTDIR =
 CC = gcc
 
-ARCHIVE = target/staticlib/librobots.a
-PROGRAM = target/bin/robots_decide
+ARCHIVE = crates/robots/out/librobots.a
+PROGRAM = crates/robots_decide/out/robots_decide
 SHARED = target/shared/librobots.so
-MADE = target conformance/target bindings/rust/target bindings/python/__pycache__
+MADE = $(wildcard crates/*/out) target conformance/target bindings/rust/target bindings/python/__pycache__
 
-# folders too, which are newer once a file is removed
-SOURCES := crates.txt $(shell find crates)
+# folders too, which are newer once a file is removed, but not the crates' own, which are newer once rt makes an out/
+SOURCES := crates.txt $(shell find crates -mindepth 2 -path 'crates/*/out' ! -path 'crates/*/*/out' -prune -o -print)
 ROOT = $(DESTDIR)$(PREFIX)
 
 .PHONY: all shared install test quick must-fail figures benchmark clean help tools prefix
 
-# two rt must not work in the same folder at a time
+# two rt that work in the same folder wait for each other
 .NOTPARALLEL:
 
-# rt check knows by itself what is up to date; rt staticlib proves the exported functions each time
+# rt run knows by itself what is up to date, and asks the program its example; rt lib proves the exported functions each
+# time
 # a program that rt leaves as it was gets a new date, by which bin/robots-decide knows it
 all: $(ARCHIVE)
-	rt check robots_decide
+	cd crates/robots_decide && rt run <stdin >/dev/null
 	@touch -c $(PROGRAM)
 	@echo "made $(ARCHIVE) and $(PROGRAM)"
 
 $(ARCHIVE): $(SOURCES) target/rt-version
-	rt staticlib robots
+	cd crates/robots && rt lib
 
 # another toolchain makes another archive
 target/rt-version: tools
@@ -55,10 +56,10 @@ install: prefix all shared
 test:
 	./test.sh
 
-# what test.sh runs, but with rt check for rt ci: nothing is proved again that is unchanged, and no edit is tried
+# what test.sh runs, but with rt all test for rt ci: nothing is proved again that is unchanged, and no edit is tried
 quick:
 	sh conformance/gate/sources.sh
-	rt check
+	rt all test
 	sh conformance/gate/tests.sh
 	@echo "make quick: passed; 'make must-fail CRATE=NAME' tries a crate's edits, and 'make test' is the gate"
 
@@ -83,10 +84,10 @@ help:
 	@echo "make                      prove and build $(ARCHIVE) and $(PROGRAM)"
 	@echo "make shared               the same library as $(SHARED)"
 	@echo "make install PREFIX=/usr  install header, library, robots.pc and program; DESTDIR is put before PREFIX"
-	@echo "make test                 run all tests, as the gate does: every proof from nothing, every must-fail edit"
-	@echo "make quick                rt fmt --check, rt check and all tests but the must-fail edits, in a few minutes"
+	@echo "make test                 run all tests, as the gate does: rt ci proves every crate and tries every must-fail edit"
+	@echo "make quick                rt all test and all tests but the must-fail edits, over what earlier runs proved"
 	@echo "make must-fail CRATE=walk try the must-fail edits of one crate"
-	@echo "make figures              print functions, lines, edits and seconds of each crate"
+	@echo "make figures              print functions, lines and edits of each crate"
 	@echo "make benchmark            print time and instructions of library and plain C, and draw docs/benchmark.svg"
 	@echo "make clean                remove what was built"
 

@@ -4,10 +4,10 @@ use std::env;
 use std::path::PathBuf;
 
 /// Seen from this package.
-const FOLDER: &str = "../../target/staticlib";
+const FOLDER: &str = "../../crates/robots/out";
 
 const MISSING: &str =
-    "target/staticlib/librobots.a is missing: run 'make' at the repository's root";
+    "crates/robots/out/librobots.a is missing: run 'make' at the repository's root";
 
 fn main() {
     let package = env::var_os("CARGO_MANIFEST_DIR").expect("cargo names the package's folder");

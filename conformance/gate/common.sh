@@ -12,3 +12,8 @@ fail() {
 no_arguments() { # COUNT COMMAND
     [ "$1" -eq 0 ] || { echo "${0##*/}: it takes no arguments: run $2" >&2; exit 2; }
 }
+
+# the names of crates.txt, in whose lines more words may stand between name and colon
+crates_listed() {
+    sed -n 's/^\([a-z0-9_]*\)\( [^:#]*\)\{0,1\}:.*/\1/p' crates.txt
+}

@@ -9,7 +9,7 @@ room=$(mktemp -d) || fail "mktemp -d: set TMPDIR to a folder that can be written
 trap 'rm -rf "$room"' EXIT
 
 # what an outer make was told isn't meant for this one
-archive=target/staticlib/librobots.a
+archive=crates/robots/out/librobots.a
 prefix=$room/prefix
 unset MAKEFLAGS MFLAGS MAKELEVEL
 make install PREFIX="$prefix" DESTDIR= ||

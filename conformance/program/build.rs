@@ -4,10 +4,10 @@ use std::env;
 use std::path::PathBuf;
 
 /// Seen from this package.
-const PROGRAM: &str = "../../target/bin/robots_decide";
+const PROGRAM: &str = "../../crates/robots_decide/out/robots_decide";
 
 const MISSING: &str =
-    "target/bin/robots_decide is missing: run 'rt check robots_decide' at the repository's root";
+    "crates/robots_decide/out/robots_decide is missing: run 'make' at the repository's root";
 
 fn main() {
     let package = env::var_os("CARGO_MANIFEST_DIR").expect("cargo names the package's folder");

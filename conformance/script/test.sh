@@ -12,8 +12,8 @@ stop() {
 cd "$(dirname "$0")/../.." || exit 2
 root=$(pwd -P)
 ask=$root/bin/robots-decide
-proved=$root/target/bin/robots_decide
-[ -x "$proved" ] || stop "target/bin/robots_decide is missing: run 'rt check robots_decide' at the repository's root"
+proved=$root/crates/robots_decide/out/robots_decide
+[ -x "$proved" ] || stop "crates/robots_decide/out/robots_decide is missing: run 'make' at the repository's root"
 room=$(mktemp -d) || stop "can't make a temporary folder: set TMPDIR to a folder that can be written"
 trap 'rm -rf "$room"' EXIT
 
@@ -291,11 +291,12 @@ done
 # ---- programs that give no answer, in a repository of their own
 
 repository=$room/repository
-mkdir -p "$repository/bin" "$repository/crates" "$repository/target/bin"
+crate=$repository/crates/robots_decide
+mkdir -p "$repository/bin" "$crate/src" "$crate/specs" "$crate/proofs" "$crate/out"
 cp "$ask" "$repository/bin/"
 : >"$repository/crates.txt"
 copy=$repository/bin/robots-decide
-program=$repository/target/bin/robots_decide
+program=$crate/out/robots_decide
 
 # Writes a shell script.
 plant() { # PLACE TEXT
@@ -334,8 +335,8 @@ check 'nothing of what it wrote is printed' [ ! -s "$room/out" ]
 # ---- building
 
 mkdir "$room/tools"
-# what rt is asked, where, and that it finds nothing to read
-plant "$room/tools/rt" "echo \"\$PWD: rt \$*: \$(wc -c) octets\"; cp '$proved' '$program'"
+# what rt is asked, where, and that it finds nothing to read; it runs what it has built
+plant "$room/tools/rt" "echo \"\$PWD: rt \$*: \$(wc -c) octets\" >&2; cp '$proved' '$program'; echo '$nothing'"
 builds() { # COMMAND...
     env PATH="$room/tools:$PATH" "$@"
 }
@@ -345,8 +346,8 @@ check 'the first run builds, and still reads its own input' gave 1 "$example"
 rm "$program"
 run builds "$copy" drydockbot /sailings/draft/9 "$room/example" <"$room/closed"
 check 'the first run builds, and leaves standard input alone' gave 1 "$example"
-check 'it says so first' [ "$(head -n 1 "$room/err")" = 'robots-decide: proving and building the program, which takes about three minutes the first time' ]
-check 'rt is asked for the program, at the root' [ "$(tail -n 1 "$room/err")" = "$(cd "$repository" && pwd -P): rt check robots_decide: 0 octets" ]
+check 'it says so first' [ "$(head -n 1 "$room/err")" = 'robots-decide: proving and building the program, which takes some minutes the first time' ]
+check 'rt is asked for the program, in its folder' [ "$(tail -n 1 "$room/err")" = "$(cd "$crate" && pwd -P): rt run: 0 octets" ]
 
 plant "$room/tools/rt" 'exit 1'
 answers 'the second run does not build' 1 "$example" builds "$copy" drydockbot /sailings/draft/9 "$room/example"
@@ -366,7 +367,7 @@ rm "$program"
 plant "$room/tools/rt" 'exit 0'
 run builds "$copy" a / "$room/empty"
 check 'a build that makes nothing opens nothing' [ "$status" -eq 2 ]
-check 'it says what to do' grep -q '^robots-decide: .*remove target/ and ask again' "$room/err"
+check 'it says what to do' grep -q '^robots-decide: .*remove crates/robots_decide/out/ and ask again' "$room/err"
 
 # ---- a search path without rt, and one whose head breaks off
 

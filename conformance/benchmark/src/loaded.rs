@@ -17,10 +17,10 @@ use crate::stop;
 /// The archive that this program is linked with.
 pub const LINKED: &str = concat!(
     env!("CARGO_MANIFEST_DIR"),
-    "/../../target/staticlib/librobots.a"
+    "/../../crates/robots/out/librobots.a"
 );
 
-const WANTED: &str = "give an archive that 'rt staticlib robots' made";
+const WANTED: &str = "give an archive that 'rt lib' made in crates/robots";
 const WRITABLE: &str = "set TMPDIR to a folder that can be written";
 
 /// `RTLD_NOW | RTLD_LOCAL` on Linux.
