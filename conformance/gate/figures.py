@@ -2,9 +2,7 @@
 """Prints a table of the crates, as docs/PROOFS.md has it: 'make figures'.
 
 Functions are those of src/*.rt, private ones too. Lines are all lines of the files: code is src/*.rt, specs and proofs
-are the *.antt files of these folders. Edits are the files must-fail/*.edit. Seconds are those that rt said last: of the
-crate's check and of its edits, from target/log, target/must-fail and target/ci.log, which test.sh keeps; a column that
-nothing is known of is left out.
+are the *.antt files of these folders. Edits are the files must-fail/*.edit. rt tells no seconds.
 """
 
 import pathlib
@@ -12,7 +10,7 @@ import re
 import sys
 
 ROOT = pathlib.Path(__file__).resolve().parents[2]
-LINES = ["Functions", "Code", "Specs", "Proofs", "Edits"]
+HEADS = ["Crate", "Functions", "Code", "Specs", "Proofs", "Edits"]
 
 
 def texts(folder, pattern):
@@ -31,55 +29,23 @@ def counted(crate):
     return [functions, lines(crate / "src", "*.rt"), specs, proofs, len(list(crate.glob("must-fail/*.edit")))]
 
 
-def said():
-    """What rt said: the last gate first, so that a later check of a crate replaces it."""
-    target = ROOT / "target"
-    logs = [target / "ci.log", *sorted(target.glob("log/*.out")), *sorted(target.glob("must-fail/*/*.out"))]
-    return "\n".join(path.read_text(encoding="utf-8", errors="replace") for path in logs if path.is_file())
-
-
-def seconds(text):
-    """The seconds of each crate's check, and of each edit."""
-    checks = {crate: int(took) for crate, took in re.findall(r"(?m)^rt: (\w+) proved \((\d+) s\)$", text)}
-    refused = re.findall(r"(?m)^rt: must-fail (\w+)/(\w+): refused, as it must be \(.*?(\d+) s\)$", text)
-    edits = {(crate, edit): int(took) for crate, edit, took in refused}
-    return checks, edits
-
-
-def span(numbers):
-    """From the least to the most."""
-    if not numbers:
-        return ""
-    return str(min(numbers)) if min(numbers) == max(numbers) else f"{min(numbers)} to {max(numbers)}"
-
-
 def row(cells):
     return "| " + " | ".join(cells) + " |"
 
 
-def table(crates, checks, edits):
-    heads = ["Crate", *LINES] + (["Seconds"] if checks else []) + (["Of an edit"] if edits else [])
-    yield row(heads)
-    yield "|---" * len(heads) + "|"
-    totals = [0] * len(LINES)
-    for crate in crates:
-        numbers = counted(ROOT / "crates" / crate)
-        totals = [total + number for total, number in zip(totals, numbers)]
-        cells = [f"`{crate}`", *(f"{number:,}" for number in numbers)]
-        if checks:
-            cells.append(str(checks.get(crate, "")))
-        if edits:
-            cells.append(span([took for (of, _), took in edits.items() if of == crate]))
-        yield row(cells)
-    cells = ["all", *(f"{total:,}" for total in totals)]
-    cells += [str(sum(checks.get(crate, 0) for crate in crates))] if checks else []
-    cells += [span([took for (of, _), took in edits.items() if of in crates])] if edits else []
-    yield row(cells)
+def table(crates):
+    yield row(HEADS)
+    yield "|---" * len(HEADS) + "|"
+    each = {crate: counted(ROOT / "crates" / crate) for crate in crates}
+    for crate, numbers in each.items():
+        yield row([f"`{crate}`", *(f"{number:,}" for number in numbers)])
+    yield row(["all", *(f"{sum(column):,}" for column in zip(*each.values()))])
 
 
 def main():
-    crates = re.findall(r"(?m)^(\w+):", (ROOT / "crates.txt").read_text(encoding="utf-8"))
-    print(*table(crates, *seconds(said())), sep="\n")
+    # more words may stand between a crate's name and the colon
+    crates = re.findall(r"(?m)^(\w+)[^:#\n]*:", (ROOT / "crates.txt").read_text(encoding="utf-8"))
+    print(*table(crates), sep="\n")
     return 0
 
 

@@ -96,12 +96,12 @@ def exported(text):
     """From each exported function to its arguments, and to its result."""
     text = uncommented(text)
     found = {}
-    function = r'#\[no_mangle\]\s*pub extern "C" fn (\w+)\(([^)]*)\)\s*(?:->\s*(\w+))?'
+    function = r'#\[unsafe\(no_mangle\)\]\s*pub extern "C" fn (\w+)\(([^)]*)\)\s*(?:->\s*(\w+))?'
     for name, arguments, result in re.findall(function, text):
         pairs = [tuple(words(half) for half in part.split(":")) for part in split(arguments)]
         found[name] = (pairs, result or "nothing")
-    if len(found) != text.count("#[no_mangle]"):
-        raise Mismatch(f'{EXPORTS}: some #[no_mangle] is not followed by pub extern "C" fn NAME(..)')
+    if len(found) != len(re.findall(r"\bno_mangle\b|\bexport_name\b", text)):
+        raise Mismatch(f'{EXPORTS}: some no_mangle is not #[unsafe(no_mangle)] in front of pub extern "C" fn NAME(..)')
     return found
 
 
@@ -194,8 +194,8 @@ def names_alike(function, pairs, given):
 def rows_of(text):
     written = re.findall(r"^(\w+) [\w ]*= ([\d_]+) when ", text, flags=re.MULTILINE)
     rows = {name: int(number.replace("_", "")) for name, number in written}
-    for name in re.findall(r"^\w+ pub (\w+) : .*→ Row$", text, flags=re.MULTILINE):
-        if name != "_when_" and name not in rows:
+    for name in re.findall(r"^\w+ pub (\S+) : .*→ Row$", text, flags=re.MULTILINE):
+        if name != "◌when◌" and name not in rows:
             raise Mismatch(f"{TABLE}: the row {name} isn't written as 'NAME .. = NUMBER when ..'")
     if len(set(rows.values())) != len(rows):
         raise Mismatch(f"{TABLE}: two rows have the same number")

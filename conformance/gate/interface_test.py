@@ -12,7 +12,7 @@ from interface import ASKING, ASKING_TEST, EVALUATOR, EXPORTS, HEADER, PYTHON, R
 ROOT = pathlib.Path(__file__).resolve().parents[2]
 
 # a row more, in front of the lists of rows
-TOO_DEAR = "abbrev pub tooDear : List ℕ → Row\ntooDear l = 10 when any line_end l\n\nabbrev pub path_rows"
+TOO_DEAR = "abbrev pub too_dear : List ℕ → Row\ntoo_dear l = 10 when any line_end l\n\nabbrev pub path_rows"
 LINE_KIND = "fn robots_line_kind(_: Start, _: usize) -> usize;"
 # functions whose arguments stand on lines of their own
 UNREAD = "robots_decide_unread(\n    dialect: usize,\n    file: &[u8],\n    name: &[u8],\n    path: &[u8],\n) -> usize"
@@ -38,7 +38,13 @@ BREAKS = [
     (EXPORTS, "fn robots_line_kind(line: &[u8]) -> usize", "fn robots_line_kind(line: &[u8]) -> bool", "answers bool"),
     (EXPORTS, 'extern "C" fn robots_line_kind', 'extern "C" fn robots_line_sort', f"{PYTHON}: lacks robots_line_sort"),
     (EXPORTS, 'extern "C" fn robots_line_kind', 'extern "C" fn robots_line_sort', f"{RUST}: declares robots_line_kind"),
-    (EXPORTS, 'pub extern "C" fn robots_line_kind', 'pub fn robots_line_kind', "some #[no_mangle]"),
+    (EXPORTS, 'pub extern "C" fn robots_line_kind', 'pub fn robots_line_kind', "some no_mangle"),
+    (
+        EXPORTS,
+        '#[unsafe(no_mangle)]\npub extern "C" fn robots_line_kind',
+        '#[no_mangle]\npub extern "C" fn robots_line_kind',
+        "some no_mangle",
+    ),
     (HEADER, "size_t robots_line_kind(", "size_t robots_line_sort(", f"{HEADER}: lacks robots_line_kind"),
     (
         HEADER,
@@ -73,7 +79,7 @@ BREAKS = [
     (TABLE, "several_lines line = 9 when", "several_lines line = 10 when", f"{PYTHON}: LINES is 9, and 10 in"),
     (TABLE, "bad_name name = 2 when", "bad_name name = 3 when", "two rows have the same number"),
     (TABLE, "bad_name name = 2 when", "bad_name name = otherwise", "the row bad_name isn't written"),
-    (TABLE, "abbrev pub path_rows", TOO_DEAR, "ROWS lacks tooDear"),
+    (TABLE, "abbrev pub path_rows", TOO_DEAR, "ROWS lacks too_dear"),
     (TABLE, "abbrev pub path_rows", TOO_DEAR, f"{EVALUATOR}: lacks the refusal 10"),
     (TABLE, "abbrev pub path_rows", TOO_DEAR, f"{ASKING}, the sentences: lacks the refusal 10"),
     (HEADER, "ROBOTS_REFUSED_LINES = 9, ", "ROBOTS_REFUSED_LINES = 10, ", f"{HEADER}: LINES is 10, and 9 in"),
