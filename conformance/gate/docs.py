@@ -98,7 +98,7 @@ class Sources:
         self.names = {}
         self.places = set()
         for above, folders, files in os.walk(folder):
-            folders[:] = sorted(set(folders) - {"target", ".git", "__pycache__"})
+            folders[:] = sorted(set(folders) - {"target", "out", ".git", "__pycache__"})
             for name in folders + sorted(files):
                 path = pathlib.Path(above, name)
                 place = path.relative_to(folder).as_posix()
