@@ -22,7 +22,7 @@ COLUMNS = 120
 ALLOWED = set(
     """
     requires ensures unfolding unfoldable abbrev refl rw split omega usize u8 const match io libc read write memchr ptr
-    os::errno io::read_full args loop -spec rattle-kit-5b
+    os::errno io::read_full args loop -spec rattle-kit-5b rattle-kit-13f
     allow disallow user-agent sitemap drydockbot ExampleBot another-bot
     g++ gcc python3 pkg-config cargo rustup -lrobots --release -O3
     < <= file: old: new: stdin stdout
@@ -34,6 +34,8 @@ COMMANDS = {"make", "rt", "gcc", "cargo", "sh", "grep", "head", "python3", "impo
 
 # files that are made, and so may be missing
 MADE = ("target/", "librobots.a", "librobots.so", "robots.pc", "Lts.antt")
+# what rt makes of a crate is in its folder out/
+OUT = re.compile(r"crates/(\w+)/out(?:/\1|/lib\1\.a)?|out")
 TEXTS = (".rt", ".antt", ".rs", ".c", ".h", ".py", ".sh", ".md", ".txt", ".toml", ".edit", ".in")
 PLACEHOLDER = re.compile(r"\b(?:NAME|FILE|FUNCTION|CRATE|EDIT|LAW|PATH)\b")
 
@@ -118,7 +120,8 @@ class Sources:
         """A file or folder, by its whole path or by the end of it, with or without .antt; NAME and * stand for any."""
         path = path.rstrip("/")
         path = path[2:] if path.startswith("./") else path
-        if path.startswith(MADE):
+        made = OUT.fullmatch(path)
+        if path.startswith(MADE) or made and made[1] in {None, *self.crates}:
             return True
         pattern = PLACEHOLDER.sub("*", path)
         if "*" not in pattern:
@@ -201,6 +204,9 @@ def exists(sources, word):
         return sources.has_qualified(word.split("::"))
     if word.endswith(TEXTS) or word.startswith(MADE):
         return sources.has_path(word)
+    if re.match(r"[a-z]\.", word):
+        # a field of what has a name for a few lines only
+        return True
     if "." in word.strip("."):
         *before, name = [part for part in word.split(".") if part]
         return not before or sources.in_module(before[-1], name) or sources.has_word(word)

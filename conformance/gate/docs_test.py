@@ -12,9 +12,9 @@ FILES = {
     "crates.txt": "walk:\n",
     "crates/walk/src/lib.rt": "// gone_function\npub struct Walked {\n    pub stood: bool,\n}\nfn walk_text() {}\n",
     "crates/walk/src/parts.rt": "pub enum Side {\n    Allow,\n}\n\nfn first_part() {}\n",
-    "crates/walk/specs/Runs.antt": "-- goneDefinition\nabbrev pub runOf : List ℕ → ℕ\nrunOf l = 0\n",
-    "crates/walk/proofs/Cuts.antt": "module (l : ℕ) where\n    pub walk-turn : l ≡ l\n    walk-turn = gone-law\n",
-    "crates/walk/proofs/gone_folder/Proof.antt": "proof : l ≡ l\n",
+    "crates/walk/specs/Runs.antt": "-- gone_definition\nabbrev pub run_of : List ℕ → ℕ\nrun_of l = 0\n",
+    "crates/walk/proofs/Cuts.antt": "module (l : ℕ) where\n    pub walk_turn : l ≡ l\n    walk_turn = gone_law\n",
+    "crates/walk/proofs/gone_folder/Proof.antt": "loop-i-init : l ≡ l\n",
     "crates/walk/must-fail/star_literal.edit": "file: src/lib.rt\nold: a\nnew: b\n",
     "include/robots.h": "/* robots_gone */\nsize_t robots_line_kind(size_t line);\n",
     "bindings/python/robots.py": "def line_kind(line):\n    return 0\n",
@@ -25,11 +25,12 @@ FILES = {
 
 RIGHT = """\
 `walk` `crates/walk` `crates/walk/src/lib.rt` `walk/src/parts.rt` `parts.rt` `specs/Runs` `crates/NAME/src/*.rt`
-`walk_text` `Walked` `stood` `walk::walk_text` `walk::parts::first_part` `Side::Allow` `runOf` `Runs.runOf`
-`Cuts.walk-turn` `walk-turn` `star_literal` `robots_line_kind` `robots_line_` `walk-` `_kind` `robots_.._kind`
-`robots.line_kind` `the_longest_file` `001-typo-02` `make quick` `rt check walk` `runOf (drop 1 path)` `runOf(l)`
-`/a%2$` `%24` `/search?q=a` `0x2B` `refused 3` `disallow: /` `https://example.com/gone` `target/bin/gone` `requires`
-`include/robots.h` crates/walk/src and include/robots.h
+`walk_text` `Walked` `stood` `walk::walk_text` `walk::parts::first_part` `Side::Allow` `run_of` `Runs.run_of`
+`Cuts.walk_turn` `walk_turn` `loop-i-init` `star_literal` `robots_line_kind` `robots_line_` `loop-` `_kind`
+`robots_.._kind` `robots.line_kind` `the_longest_file` `001-typo-02` `make quick` `rt ci walk` `run_of(l)`
+`run_of (drop 1 path)` `/a%2$` `%24` `/search?q=a` `0x2B` `refused 3` `disallow: /` `https://example.com/gone`
+`target/shared/gone` `requires` `include/robots.h` crates/walk/src and include/robots.h `c.before.args`
+`crates/walk/out/walk` `crates/walk/out/libwalk.a` `crates/walk/out/` `out/` and crates/walk/out/libwalk.a
 
     crates/walk/src/lib.rt
 """
@@ -38,11 +39,16 @@ WRONG = [
     "`crates/gone`",
     "`crates/walk/src/gone.rt`",
     "`gone.rt`",
+    "`crates/gone/out/gone`",
+    "`crates/walk/out/gone`",
+    "crates/walk/out/libgone.a",
     "`specs/Gone`",
     "`gone_function`",
     "`gone_folder`",
-    "`goneDefinition`",
-    "`gone-law`",
+    "`gone_definition`",
+    "`gone_law`",
+    "`gone-i-init`",
+    "`gone-`",
     "`Gone`",
     "`gone`",
     "`robots_gone`",
@@ -55,11 +61,11 @@ WRONG = [
     "`gone::parts::first_part`",
     "`Side::Gone`",
     "`Runs.gone`",
-    "`Gone.runOf`",
-    "`Cuts.runOf`",
+    "`Gone.run_of`",
+    "`Cuts.run_of`",
     "`robots.gone`",
     "`gone_function(l)`",
-    "`runOf (goneDefinition path)`",
+    "`run_of (gone_definition path)`",
     "`make gone`",
     "`001-gone-02`",
     "`walk` and `crates",
