@@ -21,8 +21,8 @@ COLUMNS = 120
 # words in backquotes that are no names of ours: the languages', the toolchain's, the protocol's, the shell's
 ALLOWED = set(
     """
-    requires ensures unfolding unfoldable abbrev refl rw split omega usize u8 const match io libc read write memchr ptr
-    os::errno io::read_full args loop -spec rattle-kit-5b rattle-kit-13f
+    requires ensures unfolding unfoldable abbrev refl rw split omega usize u8 const match read write memchr ptr
+    read_to_end Read Write args loop -spec rattle-kit-5b rattle-kit-13f
     allow disallow user-agent sitemap drydockbot ExampleBot another-bot
     g++ gcc python3 pkg-config cargo rustup -lrobots --release -O3
     < <= file: old: new: stdin stdout
