@@ -24,7 +24,7 @@ use Rattle.protocol.specs.Octets.{line_end}
 use Rattle.protocol.specs.Lines.{Line, place_after}
 use Rattle.protocol.specs.Readable.{names}
 use Rattle.protocol.specs.Kinds.{kind_of}
-use Rattle.protocol.specs.Entries.{agent, rule, role_of, group_at, ruled_after, entry_of, entries_from}
+use Rattle.protocol.specs.Entries.{rule, role_of, group_at, ruled_after, entry_of, entries_from}
 use Rattle.protocol.specs.Decision.{pattern_of}
 use Rattle.protocol.specs.Answers.{line_answer}
 use Rattle.protocol.proofs.KindAnswer.{line_answered}

@@ -1,6 +1,6 @@
 -- A text that begins with an agent line doesn't begin with EF BB BF; and what stands behind a line ending is no part of a leading mark. Assumes
 -- nothing.
-use Prim.Native.Nat.{ℕ, ◌+◌}
+use Prim.Native.Nat.{ℕ}
 use mathlib.Core.Path.{◌≡◌, refl, sym, ◌∙◌}
 use mathlib.Core.Bool.{true, false, and-false, false≢true}
 use mathlib.Core.List.{List, [], ◌∷◌, ◌++◌}

@@ -1,5 +1,5 @@
 -- The kind of a line for a pass over a file, to which blank, noise and other lines are all one; and what is told of a value. Assumes nothing.
-use Rattle.std.specs.Prelude.{ℕ, Bool, List, length}
+use Rattle.std.specs.Prelude.{ℕ, List, length}
 use Rattle.lists.specs.Lists.{all, up_to}
 use Rattle.protocol.specs.declared.Kind.{Kind}
 use Rattle.protocol.specs.declared.Place.{Place}

@@ -1,20 +1,18 @@
 -- The lines of a file, from one to the next: where the line behind the one at a place begins. Assumes nothing.
 use Prim.Native.Nat.{ℕ, zero, suc, ◌+◌, ◌≤◌, ◌<◌}
 use mathlib.Core.Path.{◌≡◌, refl, sym, ap, ◌∙◌}
-use mathlib.Core.Bool.{true, false≢true}
+use mathlib.Core.Bool.{true}
 use mathlib.Core.List.{List, [], ◌∷◌}
 use native.Mathlib.Omega.{arith}
 use lib.ListN.{length, drop, get_or, length-drop, drop_of_length-le}
 use lib.Seq.{drop-drop, get_or-drop}
-use borrow.Author.Tests.{ltb-true, ltb-false, eqb-true, ne_eqb}
-use lib.Dec.{ltb}
+use borrow.Author.Tests.{ne_eqb}
 use Rattle.lists.specs.Lists.{up_to, from}
 use Rattle.lists.proofs.Bools.{split}
 use Rattle.lists.proofs.Parts.{up_to_stop, up_to_on}
 use Rattle.lists.proofs.Scans.{up_to_fits, up_to_stops, drop_up_to, drop_one}
 use Rattle.protocol.specs.declared.Place.{Place}
 use Rattle.protocol.specs.Octets.{line_end}
-use Rattle.protocol.specs.Text.{begins}
 use Rattle.protocol.specs.Lines.{place_at, place_after, line_text, ending_length, line_length}
 use Rattle.protocol.proofs.FrontToBack.{length_on, length_ending, line_fits, line_some}
 use Rattle.lines.specs.Spans.{text_at, next_at}

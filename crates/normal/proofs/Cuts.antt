@@ -1,6 +1,6 @@
 -- To cut a pattern at its stars and to normalise it: the order doesn't matter, since a star is in no escape and only a star gives one.
 -- Assumes nothing.
-use Prim.Native.Nat.{ℕ, ◌%◌}
+use Prim.Native.Nat.{ℕ}
 use Prim.Native.Char.{code}
 use mathlib.Core.Path.{◌≡◌, refl, sym, ap, ◌∙◌}
 use mathlib.Core.Bool.{true, false, not, false≢true}

@@ -17,9 +17,8 @@ use Rattle.lists.proofs.Parts.{from_stop, from_on}
 use Rattle.protocol.specs.declared.LineNumber.{LineNumber}
 use Rattle.protocol.specs.declared.Place.{Place}
 use Rattle.protocol.specs.declared.Position.{Position}
-use Rattle.protocol.specs.declared.Kind.{Kind}
 use Rattle.protocol.specs.declared.Audience.{Audience}
-use Rattle.protocol.specs.Lines.{Line, line, line_number, place_at, number_after, has_leading_mark, skipped, line_text, lines_of}
+use Rattle.protocol.specs.Lines.{Line, line, line_number, place_at, has_leading_mark, skipped, line_text, lines_of}
 use Rattle.protocol.specs.Readable.{everyone}
 use Rattle.protocol.specs.Kinds.{kind_of}
 use Rattle.protocol.specs.Entries.{Role, agent, rule, role_of, entries}
@@ -29,7 +28,7 @@ use Rattle.protocol.specs.contracts.Audience as A
 use Rattle.lines.specs.Spans.{text_at}
 use Rattle.lines.specs.Skips.{agent_octet, endings, between, next_agent}
 use Rattle.lines.proofs.Passing.{Unasked, agents_on, agents_further}
-use Rattle.lines.proofs.Skips.{endings_between, none_between}
+use Rattle.lines.proofs.Skips.{endings_between}
 use Rattle.fields.specs.Fields.{field_of}
 use Rattle.hearing.specs.Heard.{whom, first_of, addressed}
 use Rattle.hearing.proofs.Naming.{names_nobody}

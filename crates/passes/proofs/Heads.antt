@@ -19,7 +19,7 @@ use Rattle.protocol.specs.Octets.{is, blank, lower_case}
 use Rattle.protocol.specs.Text.{octets, begins, solid}
 use Rattle.protocol.specs.Lines.{line_text}
 use Rattle.protocol.specs.Kinds.{agent_at, kind_of}
-use Rattle.protocol.specs.Entries.{agent, role_of}
+use Rattle.protocol.specs.Entries.{role_of}
 use Rattle.lines.specs.Skips.{agent_octet, entry_octet}
 use Rattle.fields.specs.declared.Field.{Field}
 use Rattle.fields.specs.declared.Head.{Head}

@@ -27,10 +27,9 @@ use Rattle.protocol.specs.Lines.{Line, line, line_number, place_at, place_after,
 use Rattle.protocol.specs.Readable.{readable_pattern}
 use Rattle.protocol.specs.Kinds.{kind_of, place_of, length_of, unreadable_kind}
 use Rattle.protocol.specs.Entries.{agent, rule, Entry, role_of, group_at, ruled_after, entry_of, entries_from, entries}
-use Rattle.protocol.specs.Rules.{value_of, rule_of, unreadable, audience}
+use Rattle.protocol.specs.Rules.{value_of, rule_of, unreadable}
 use Rattle.protocol.proofs.FrontToBack.{lines_at, lines_next, lines_end, lines_all}
 use Rattle.protocol.specs.contracts.Kind as K
-use Rattle.protocol.specs.contracts.Audience as A
 use Rattle.lines.specs.Spans.{text_at, next_at}
 use Rattle.lines.specs.Skips.{agent_octet, endings, between, next_agent, PassedOver}
 use Rattle.kinds.specs.Entries.{entry_kind}

@@ -4,7 +4,7 @@ use Rattle.lists.specs.Lists.{any, from}
 use Rattle.protocol.specs.declared.Place.{Place}
 use Rattle.protocol.specs.declared.Position.{Position}
 use Rattle.protocol.specs.declared.Audience.{Audience}
-use Rattle.protocol.specs.Lines.{line_number, place_at, number_after, skipped, lines_of}
+use Rattle.protocol.specs.Lines.{number_after, skipped, lines_of}
 use Rattle.lines.specs.Skips.{endings, between}
 use Rattle.hearing.specs.Heard.{whom}
 use Rattle.passes.specs.declared.audience.Chosen.{Chosen}

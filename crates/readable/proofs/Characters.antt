@@ -10,7 +10,6 @@ use borrow.Author.Tests.{leb-true, ltb-true, lt-ltb, lt-leb, le-leb, ne_eqb}
 use Rattle.lists.specs.Lists.{all, up_to}
 use Rattle.lists.proofs.Bools.{split, and_left, and_right}
 use Rattle.lists.proofs.Parts.{up_to_stop, up_to_on}
-use Rattle.lists.specs.Choice.{if◌then◌else◌}
 use Rattle.protocol.specs.Readable.{Range, holds, utf8_tail, never, character_forms, due_after, well_formed}
 use Rattle.protocol.specs.Classes.{Bound, ◌leaves◌, class_forms, due_up_to, class_of}
 use Rattle.protocol.proofs.Classes.{due_told}

@@ -1,5 +1,5 @@
 -- Whether an agent's value is readable, and whom it names, as the code asks it. Assumes nothing.
-use Prim.Native.Nat.{ℕ, ◌+◌, ◌≤◌, ◌<◌}
+use Prim.Native.Nat.{ℕ, ◌≤◌, ◌<◌}
 use mathlib.Core.Path.{◌≡◌, sym, ap, ◌∙◌}
 use mathlib.Core.Bool.{Bool, true, false, ◌&&◌, not, and-false, true≢false}
 use mathlib.Core.List.{List, ◌++◌, append-nil}

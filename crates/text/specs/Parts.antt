@@ -4,7 +4,6 @@ use Rattle.lists.specs.Choice.{if◌then◌else◌}
 use Rattle.lists.specs.Lists.{up_to}
 use Rattle.protocol.specs.declared.Place.{Place}
 use Rattle.protocol.specs.declared.Sort.{Sort}
-use Rattle.protocol.specs.Octets.{within}
 use Rattle.protocol.specs.Classes.{is_of}
 use Rattle.protocol.specs.Lines.{place_after}
 

@@ -26,7 +26,7 @@ module _ (c : tie.Joined-side) where
   told =
       let known = weight_on entry.args.c in
       elim c.match-side.branch [
-        in-Allow w ↦ w.heaviest-is ∙ ap known (sym w.in-Allow.is)
+        | in-Allow w ↦ w.heaviest-is ∙ ap known (sym w.in-Allow.is)
         | in-Disallow w ↦ w.heaviest-is ∙ ap known (sym w.in-Disallow.is)
       ]
 

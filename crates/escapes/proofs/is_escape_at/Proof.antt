@@ -4,7 +4,7 @@ use mathlib.Core.Path.{◌≡◌, sym, ◌∙◌}
 use mathlib.Core.Bool.{Bool, true, false, ◌&&◌}
 use native.Mathlib.Omega.{arith}
 use lib.ListN.{drop, get_or, length-drop}
-use borrow.Author.Tests.{eq-eqb, not-true, not-false}
+use borrow.Author.Tests.{eq-eqb}
 use borrow.Author.Rules.{rules}
 use Rattle.protocol.specs.Octets.{hex}
 use Rattle.protocol.specs.Normal.{is_escape}

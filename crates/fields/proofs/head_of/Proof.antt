@@ -6,7 +6,6 @@ use mathlib.Core.List.{List}
 use native.Mathlib.Omega.{arith}
 use lib.ListN.{length, take, drop}
 use borrow.Author.Rules.{rules}
-use borrow.Author.Tests.{not-true, not-false}
 use Rattle.protocol.specs.Text.{begins, lead}
 use Rattle.protocol.specs.Lines.{place_at}
 use Rattle.text.proofs.Trims.{trim_fits}

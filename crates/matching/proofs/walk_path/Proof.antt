@@ -1,11 +1,10 @@
 -- `matching::walk_path` meets its contract: nothing is refused, so the path fits the room, and the count a number. Assumes nothing.
 use Prim.Native.Nat.{ℕ, ◌*◌, ◌≤◌}
 use mathlib.Core.Path.{◌≡◌, sym, ◌∙◌}
-use mathlib.Core.Bool.{true, false, not}
+use mathlib.Core.Bool.{false}
 use mathlib.Core.List.{List}
 use native.Mathlib.Omega.{arith}
 use lib.ListN.{length}
-use borrow.Author.Tests.{not-true}
 use borrow.Author.Rules.{rules}
 use Rattle.protocol.specs.Normal.{normal_path}
 use Rattle.protocol.specs.Refusals.{path_rows, refusal}

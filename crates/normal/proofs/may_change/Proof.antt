@@ -2,7 +2,6 @@
 use Prim.Native.Nat.{ℕ, ◌-◌, ◌≤◌}
 use mathlib.Core.Path.{◌≡◌, sym, ◌∙◌}
 use mathlib.Core.Bool.{true, false}
-use mathlib.Core.Logic.{⊎_elim}
 use mathlib.Core.List.{List}
 use native.Mathlib.Omega.{arith}
 use lib.ListN.{length, drop, get_or}
@@ -34,7 +33,7 @@ module _ (c : tie.Joined-path-ge8 invariant-loop-i decreases-loop-i) where
   -- no octet that isn't literal is passed over
   clear : c.if-path-ge8.i ≤ length (up_to not_literal whole)
   clear = elim c.if-path-ge8.branch [
-    then-path-ge8 w ↦ omega (arith, w.i-is, w.clear_front-i.ensures)
+    | then-path-ge8 w ↦ omega (arith, w.i-is, w.clear_front-i.ensures)
     | else-path-ge8 w ↦ omega (arith, w.i-is)
   ]
 

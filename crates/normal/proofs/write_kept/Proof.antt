@@ -1,11 +1,10 @@
 -- `normal::write_kept` meets its contract: to store what is left of the front leaves what to store the whole would. Assumes nothing.
-use Prim.Native.Nat.{ℕ, ◌-◌}
+use Prim.Native.Nat.{◌-◌}
 use mathlib.Core.Path.{◌≡◌, refl, sym, ◌∙◌}
-use mathlib.Core.List.{List, [], ◌∷◌}
+use mathlib.Core.List.{[], ◌∷◌}
 use native.Mathlib.Omega.{arith}
 use lib.ListN.{length, drop, drop_of_length-le}
 use lib.Seq.{sets}
-use borrow.Author.Tests.{not-true, not-false}
 use Rattle.lists.specs.Lists.{up_to}
 use Rattle.protocol.specs.Normal.{is_encoded}
 use Rattle.normal.proofs.Literal.{literal_shorter, literal_stored, front_rest}

@@ -32,7 +32,7 @@ module _ (c : tie.Joined-path-ge8 invariant-loop-i decreases-loop-i) where
   -- no octet up to "#" is passed over
   clear : c.if-path-ge8.i ≤ length (up_to (among 0 35 true) whole)
   clear = elim c.if-path-ge8.branch [
-    then-path-ge8 w ↦ omega (arith, w.i-is, w.clear_front-i.ensures)
+    | then-path-ge8 w ↦ omega (arith, w.i-is, w.clear_front-i.ensures)
     | else-path-ge8 w ↦ omega (arith, w.i-is)
   ]
 

@@ -1,7 +1,6 @@
 -- `runs::first_run` meets its contract: the tests say which case of `first` holds. Assumes nothing.
 use mathlib.Core.Path.{◌≡◌, sym, ap, ◌∙◌}
 use mathlib.Core.Bool.{Bool, true≢false}
-use mathlib.Core.Logic.{⊎_elim}
 use native.Mathlib.Omega.{arith}
 use lib.ListN.{length}
 use borrow.Author.Rules.{rules}
@@ -38,7 +37,7 @@ module _ (c : tie.Joined-last) where
   whole =
       first_in entry.args.run.now entry.args.path.now entry.args.last (omega arith)
       (elim c.if-last.branch [
-        then-last+else-run-path w ↦ λ _. w.if-run-path.false
+        | then-last+else-run-path w ↦ λ _. w.if-run-path.false
         | else-last w ↦ λ e. absurd (true≢false (sym e ∙ w.if-last.false))
       ])
 

@@ -26,7 +26,7 @@ module _ (c : tie.Joined-s-ge8) where
   -- no octet up to CR is passed over
   clear : c.if-s-ge8.front ≤ length (up_to (among 0 13 true) text)
   clear = elim c.if-s-ge8.branch [
-    then-s-ge8 w ↦ omega (arith, w.front-is, w.clear_front-front.ensures)
+    | then-s-ge8 w ↦ omega (arith, w.front-is, w.clear_front-front.ensures)
     | else-s-ge8 w ↦ omega (arith, w.front-is)
   ]
 

@@ -12,7 +12,7 @@ returns c =
     let a = c.before.args in
     let known : c.if-low-x.is_within ≡ within a.low a.high a.x
     = elim c.if-low-x.branch [
-      then-low-x w ↦ w.is_within-is ∙ rw (le-leb a.low a.x w.if-low-x.true)
+      | then-low-x w ↦ w.is_within-is ∙ rw (le-leb a.low a.x w.if-low-x.true)
       | else-low-x w ↦ w.is_within-is ∙ rw (lt-leb a.low a.x w.if-low-x.false)
     ] in
     rw known (as_sought (within a.low a.high a.x) a.inside)

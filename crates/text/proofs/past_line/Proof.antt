@@ -89,10 +89,10 @@ module _ (c : tie.After-first_mark-front invariant-loop-i decreases-loop-i) wher
 over : (c : tie.Joined-marks-ne0 invariant-loop-i decreases-loop-i) → ends (loop c.before) ≡ 8
 over c =
     elim c.if-marks-ne0.branch [
-      then-marks-ne0+else-front-lt8 w ↦
-        let seen : tie.After-first_mark-front invariant-loop-i decreases-loop-i
-        = record { before = record { before = record { before = c.before; if-marks-ne0 = w.if-marks-ne0 }; line_end_marks = w.line_end_marks }; first_mark-front = w.first_mark-front } in
-        omega (arith, found seen, ends-fit (loop c.before), w.if-front-lt8.false)
+      | then-marks-ne0+else-front-lt8 w ↦
+          let seen : tie.After-first_mark-front invariant-loop-i decreases-loop-i
+          = record { before = record { before = record { before = c.before; if-marks-ne0 = w.if-marks-ne0 }; line_end_marks = w.line_end_marks }; first_mark-front = w.first_mark-front } in
+          omega (arith, found seen, ends-fit (loop c.before), w.if-front-lt8.false)
       | else-marks-ne0 w ↦ none c.before w.if-marks-ne0.false
     ]
 

@@ -6,7 +6,6 @@ use native.Mathlib.Omega.{arith}
 use borrow.Author.Rules.{rules}
 use lib.ListN.{length, take, get_or}
 use lib.Seq.{take_all}
-use borrow.Author.Tests.{not-true, not-false}
 use Rattle.protocol.specs.Octets.{blank}
 use Rattle.protocol.specs.Text.{trim_end}
 use Rattle.text.proofs.Trims.{end_blank, end_solid, end_none}

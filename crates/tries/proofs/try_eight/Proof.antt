@@ -1,13 +1,12 @@
 -- `tries::try_eight` meets its contract: behind the first four places, those that are left give the whole outcome. Assumes nothing.
-use Prim.Native.Nat.{ℕ, ◌-◌}
+use Prim.Native.Nat.{ℕ}
 use mathlib.Core.Path.{◌≡◌, refl, sym, ap, ◌∙◌}
 use mathlib.Core.List.{List}
 use native.Mathlib.Omega.{arith}
-use lib.ListN.{length, drop, length-drop}
+use lib.ListN.{drop, length-drop}
 use lib.Seq.{length-take-le}
 use borrow.Author.Rules.{rules}
 use Rattle.lists.proofs.Scans.{rest_of}
-use Rattle.protocol.specs.declared.Tried.{Tried}
 use Rattle.tries.specs.Tries.{tried_first}
 use Rattle.tries.proofs.Turns.{firsts_within, firsts_behind, firsts_fewer}
 use Rattle.tries.proofs.try_eight.Statement.{statement}

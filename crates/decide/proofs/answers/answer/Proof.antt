@@ -1,11 +1,10 @@
 -- `decide::answers::answer` meets its contract: nothing is refused, so file and path fit. Assumes nothing.
 use Prim.Native.Nat.{ℕ, ◌*◌, ◌≤◌}
 use mathlib.Core.Path.{◌≡◌, sym, ◌∙◌}
-use mathlib.Core.Bool.{true, false, not}
+use mathlib.Core.Bool.{false}
 use mathlib.Core.List.{List}
 use native.Mathlib.Omega.{arith}
 use lib.ListN.{length}
-use borrow.Author.Tests.{not-true}
 use borrow.Author.Rules.{rules}
 use Rattle.protocol.specs.Normal.{normal_path}
 use Rattle.protocol.proofs.Sizes.{normal_size}

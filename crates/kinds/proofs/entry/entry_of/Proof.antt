@@ -15,12 +15,12 @@ use Rattle.protocol.specs.declared.Side.{Side}
 use Rattle.protocol.specs.declared.Place.{Place}
 use Rattle.protocol.specs.Text.{trim_end}
 use Rattle.protocol.specs.Lines.{place_at, place_after, line_text}
-use Rattle.protocol.specs.Kinds.{agent_at, pattern_at, kind_of}
+use Rattle.protocol.specs.Kinds.{agent_at, kind_of}
 use Rattle.protocol.specs.Classes.{stop}
 use Rattle.readable.specs.Due.{ordinary}
 use Rattle.fields.specs.declared.Field.{Field}
 use Rattle.fields.specs.declared.Head.{Head}
-use Rattle.fields.specs.Fields.{field_of, side_of, head_of, value_at}
+use Rattle.fields.specs.Fields.{field_of, head_of, value_at}
 use Rattle.fields.specs.contracts.Field as F
 use Rattle.fields.proofs.Heads.{is_other, head_field, head_inside, kind_head, kind_rule}
 use Rattle.kinds.specs.declared.entry.Value.{Value}

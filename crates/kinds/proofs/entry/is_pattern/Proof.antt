@@ -1,7 +1,6 @@
 -- `kinds::entry::is_pattern` meets its contract. Assumes nothing.
 use mathlib.Core.Path.{sym, ◌∙◌}
 use Rattle.kinds.proofs.Values.{ordinary_readable}
-use borrow.Author.Rules.{rules}
 use Rattle.kinds.proofs.entry.is_pattern.Statement.{statement}
 use Rattle.kinds.proofs.entry.is_pattern.Tie as tie
 

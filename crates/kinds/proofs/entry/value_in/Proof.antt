@@ -1,7 +1,7 @@
 -- `kinds::entry::value_in` meets its contract. Assumes nothing.
 use Prim.Native.Nat.{ℕ, ◌+◌, ◌≤◌}
 use mathlib.Core.Path.{◌≡◌, sym, ap, ◌∙◌}
-use mathlib.Core.Bool.{Bool, true, false}
+use mathlib.Core.Bool.{true, false}
 use mathlib.Core.List.{List}
 use native.Mathlib.Omega.{arith}
 use lib.ListN.{length, drop, length-drop}
@@ -14,8 +14,6 @@ use Rattle.protocol.specs.Classes.{stop}
 use Rattle.readable.specs.Due.{unusual}
 use Rattle.fields.specs.Fields.{ended}
 use Rattle.text.proofs.Trims.{trim_fits}
-use Rattle.kinds.specs.declared.entry.Value.{Value}
-use Rattle.kinds.specs.Entries.{value_told}
 use Rattle.kinds.proofs.Fronts.{value_fits}
 use Rattle.kinds.proofs.Values.{ended_solid, ordinary_told, value_ordinary, value_behind}
 use Rattle.kinds.proofs.entry.value_in.Statement.{statement}

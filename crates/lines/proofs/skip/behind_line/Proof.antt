@@ -2,15 +2,14 @@
 use Prim.Native.Nat.{ℕ, ◌+◌, ◌≤◌, ◌<◌}
 use mathlib.Core.Path.{◌≡◌, sym, ap, ap₂, ◌∙◌}
 use mathlib.Core.Bool.{true, ◌&&◌}
-use mathlib.Core.List.{List, ◌∷◌}
+use mathlib.Core.List.{List}
 use native.Mathlib.Omega.{arith}
 use native.Mathlib.Nat.{zero-add}
-use lib.ListN.{length, drop, get_or}
+use lib.ListN.{length}
 use Rattle.lists.specs.Lists.{up_to}
 use Rattle.lists.proofs.Scans.{up_to_fits}
 use Rattle.protocol.specs.declared.Place.{Place}
 use Rattle.words.specs.Words.{among}
-use Rattle.lines.specs.Skips.{pairs, agent_front}
 use Rattle.lines.proofs.Pairs.{pairs_next}
 use Rattle.lines.proofs.Skips.{front_here, front_sought}
 use Rattle.lines.proofs.skip.behind_line.Statement.{statement}

@@ -4,7 +4,6 @@ use mathlib.Core.Path.{◌≡◌, sym, ap, ◌∙◌}
 use mathlib.Core.List.{List}
 use native.Mathlib.Omega.{arith}
 use lib.ListN.{length, drop, length-take, length-drop}
-use borrow.Author.Tests.{not-true, not-false}
 use Rattle.lists.proofs.Scans.{rest_of}
 use Rattle.protocol.specs.Lines.{place_at}
 use Rattle.lines.specs.Skips.{pairs, agent_front}

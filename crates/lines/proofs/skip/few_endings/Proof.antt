@@ -56,7 +56,7 @@ module _ (c : tie.Joined-closes_line invariant-loop-i decreases-loop-i) where
   closed-here =
       let told = sym c.before.closes_line.ensures in
       elim c.if-closes_line.branch [
-        then-closes_line v ↦ v.ends-is ∙ sym (ap one_if (told ∙ v.if-closes_line.true))
+        | then-closes_line v ↦ v.ends-is ∙ sym (ap one_if (told ∙ v.if-closes_line.true))
         | else-closes_line v ↦ v.ends-is ∙ sym (ap one_if (told ∙ v.if-closes_line.false))
       ]
 

@@ -56,18 +56,18 @@ loop-i-preserved c =
     let told = sym (ap₂ ◌&&◌ e.ends_line.ensures m.may_begin.ensures) in
     let next = zip_next a.b.now a.behind.now l.loop-i.i (omega arith) (omega arith) in
     elim c.before.if-ends_line-may_begin.branch [
-      then-ends_line-may_begin v ↦
-        let here = front_here next (told ∙ v.if-ends_line-may_begin.true) in
-        elim c.if-here-first.branch [
-          then-here-first w ↦ omega (arith, here, l.loop-i.invariant.2)
-          | else-here-first w ↦ omega (arith, here, l.loop-i.invariant.2)
-        ]
+      | then-ends_line-may_begin v ↦
+          let here = front_here next (told ∙ v.if-ends_line-may_begin.true) in
+          elim c.if-here-first.branch [
+            | then-here-first w ↦ omega (arith, here, l.loop-i.invariant.2)
+            | else-here-first w ↦ omega (arith, here, l.loop-i.invariant.2)
+          ]
       | else-ends_line-may_begin v ↦
-        let on = front_on next (told ∙ v.if-ends_line-may_begin.false) in
-        elim c.if-here-first.branch [
-          then-here-first w ↦ omega (arith, on, l.loop-i.invariant.2)
-          | else-here-first w ↦ omega (arith, on, l.loop-i.invariant.2)
-        ]
+          let on = front_on next (told ∙ v.if-ends_line-may_begin.false) in
+          elim c.if-here-first.branch [
+            | then-here-first w ↦ omega (arith, on, l.loop-i.invariant.2)
+            | else-here-first w ↦ omega (arith, on, l.loop-i.invariant.2)
+          ]
     ]
 
 overflow_cast-result : tie.Need-overflow_cast-result invariant-loop-i decreases-loop-i

@@ -67,7 +67,7 @@ found_here c =
     let m = c.before in
     let told = sym (ap₂ ◌&&◌ m.before.ends_line.ensures m.may_begin_entry.ensures) in
     elim c.if-ends_line-may_begin_entry.branch [
-      then-ends_line-may_begin_entry v ↦ v.here-is ∙ sym (ap one_if (told ∙ v.if-ends_line-may_begin_entry.true))
+      | then-ends_line-may_begin_entry v ↦ v.here-is ∙ sym (ap one_if (told ∙ v.if-ends_line-may_begin_entry.true))
       | else-ends_line-may_begin_entry v ↦ v.here-is ∙ sym (ap one_if (told ∙ v.if-ends_line-may_begin_entry.false))
     ]
 
@@ -79,7 +79,7 @@ module _ (c : tie.Joined-closes_line invariant-loop-i decreases-loop-i) where
   closed-here =
       let told = sym c.before.closes_line.ensures in
       elim c.if-closes_line.branch [
-        then-closes_line v ↦ v.ends-is ∙ sym (ap one_if (told ∙ v.if-closes_line.true))
+        | then-closes_line v ↦ v.ends-is ∙ sym (ap one_if (told ∙ v.if-closes_line.true))
         | else-closes_line v ↦ v.ends-is ∙ sym (ap one_if (told ∙ v.if-closes_line.false))
       ]
 

@@ -80,7 +80,7 @@ loop-i-preserved c =
     let e = c.before in
     let ended = e.ends_line.ensures in
     elim c.if-ends_line.branch [
-      then-ends_line+else-may_begin v ↦ on e (ap₂ ◌&&◌ (sym ended ∙ v.if-ends_line.true) (sym v.may_begin.ensures ∙ v.if-may_begin.false))
+      | then-ends_line+else-may_begin v ↦ on e (ap₂ ◌&&◌ (sym ended ∙ v.if-ends_line.true) (sym v.may_begin.ensures ∙ v.if-may_begin.false))
       | else-ends_line v ↦ on e (ap (λ (x : Bool). x && agent_octet (octets e).1) (sym ended ∙ v.if-ends_line.false))
     ]
 

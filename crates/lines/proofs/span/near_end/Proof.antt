@@ -1,10 +1,9 @@
 -- `lines::span::near_end` meets its contract: what is left of the line gives the whole. Assumes nothing.
 use Prim.Native.Nat.{ℕ, ◌+◌, ◌-◌, ◌<◌}
-use mathlib.Core.Path.{◌≡◌, refl, sym, ap, ◌∙◌}
-use mathlib.Core.Bool.{true}
+use mathlib.Core.Path.{◌≡◌, sym, ap, ◌∙◌}
 use mathlib.Core.List.{List}
 use native.Mathlib.Omega.{arith}
-use lib.ListN.{length, drop, get_or, length-drop}
+use lib.ListN.{length, drop, length-drop}
 use Rattle.lists.proofs.Scans.{rest_of, drop_one}
 use Rattle.protocol.specs.Octets.{line_end}
 use Rattle.protocol.specs.Lines.{ending_length, line_length}

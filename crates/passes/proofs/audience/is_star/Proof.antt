@@ -1,18 +1,16 @@
 -- `passes::audience::is_star` meets its contract. Assumes nothing.
 use Prim.Native.Nat.{ℕ, ◌+◌, ◌<◌}
 use mathlib.Core.Path.{◌≡◌, sym, ap, ◌∙◌}
-use mathlib.Core.List.{List, [], ◌∷◌}
+use mathlib.Core.List.{List}
 use native.Mathlib.Omega.{arith}
-use lib.ListN.{length, take, drop, get_or, length-drop}
+use lib.ListN.{length, drop, length-drop}
 use lib.Seq.{drop-drop}
 use borrow.Author.Rules.{rules}
-use Rattle.lists.specs.Lists.{from, same}
+use Rattle.lists.specs.Lists.{from}
 use Rattle.lists.proofs.Scans.{rest_of, drop_up_to}
-use Rattle.protocol.specs.Text.{octets, solid, lead}
-use Rattle.protocol.specs.Readable.{everyone}
+use Rattle.protocol.specs.Text.{solid, lead}
 use Rattle.text.proofs.Trims.{trim_fits}
 use Rattle.fields.specs.Fields.{ended}
-use Rattle.kinds.specs.Entries.{value_front}
 use Rattle.passes.proofs.Named.{star_none, star_other, star_here}
 use Rattle.passes.proofs.audience.is_star.Statement.{statement}
 use Rattle.passes.proofs.audience.is_star.Tie as tie

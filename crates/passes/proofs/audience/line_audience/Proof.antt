@@ -12,7 +12,6 @@ use Rattle.protocol.specs.Lines.{line_text}
 use Rattle.protocol.specs.Kinds.{agent_at, kind_of}
 use Rattle.protocol.specs.Entries.{role_of}
 use Rattle.lines.specs.Spans.{text_at}
-use Rattle.fields.specs.declared.Field.{Field}
 use Rattle.fields.specs.Fields.{value_at}
 use Rattle.kinds.specs.Entries.{value_front}
 use Rattle.hearing.specs.Heard.{addressed}

@@ -1,16 +1,14 @@
 -- `passes::audience::value_audience` meets its contract. Assumes nothing.
 use Prim.Native.Nat.{ℕ}
 use mathlib.Core.Path.{◌≡◌, sym, ◌∙◌}
-use mathlib.Core.Bool.{Bool, true, false}
+use mathlib.Core.Bool.{true, false}
 use mathlib.Core.List.{List}
 use borrow.Author.Rules.{rules}
 use Rattle.lists.specs.Lists.{same}
-use Rattle.protocol.specs.declared.Audience.{Audience}
 use Rattle.protocol.specs.Text.{octets}
 use Rattle.protocol.specs.Readable.{everyone, names}
 use Rattle.protocol.proofs.Agents.{star_names}
 use Rattle.kinds.specs.Entries.{value_front}
-use Rattle.hearing.specs.Heard.{first_of}
 use Rattle.passes.proofs.Named.{text_names, not_everyone}
 use Rattle.passes.proofs.audience.value_audience.Statement.{statement}
 use Rattle.passes.proofs.audience.value_audience.Tie as tie

@@ -4,7 +4,6 @@ use mathlib.Core.Path.{refl, ◌∙◌}
 use native.Mathlib.Omega.{arith}
 use lib.ListN.{length}
 use borrow.Author.Rules.{rules}
-use borrow.Author.Tests.{not-true, not-false}
 use Rattle.protocol.specs.declared.Place.{Place}
 use Rattle.passes.proofs.Lines.{rule_unheard, rule_not_readable, pattern_inside, pattern_read, pattern_room, rule_heard_lem}
 use Rattle.passes.proofs.gather.consider_rule.Statement.{statement}

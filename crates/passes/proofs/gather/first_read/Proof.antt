@@ -1,5 +1,4 @@
 -- `passes::gather::first_read` meets its contract. Assumes nothing.
-use mathlib.Core.Path.{◌≡◌, ap}
 use native.Mathlib.Omega.{arith}
 use borrow.Author.Rules.{rules}
 use Rattle.passes.proofs.Turns.{first_whole, first_part_lem}

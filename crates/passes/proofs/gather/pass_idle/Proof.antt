@@ -1,6 +1,5 @@
 -- `passes::gather::pass_idle` meets its contract. Assumes nothing.
 use native.Mathlib.Omega.{arith}
-use borrow.Author.Rules.{rules}
 use Rattle.lines.proofs.Skips.{over_none}
 use Rattle.passes.proofs.gather.pass_idle.Statement.{statement}
 use Rattle.passes.proofs.gather.pass_idle.Tie as tie

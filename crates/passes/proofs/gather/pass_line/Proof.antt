@@ -5,7 +5,6 @@ use mathlib.Core.List.{List}
 use native.Mathlib.Omega.{arith}
 use lib.ListN.{length, drop}
 use borrow.Author.Rules.{rules}
-use Rattle.protocol.specs.declared.Kind.{Kind}
 use Rattle.protocol.specs.Kinds.{kind_of}
 use Rattle.lines.specs.Spans.{text_at}
 use Rattle.lines.proofs.Forward.{text_inside}
