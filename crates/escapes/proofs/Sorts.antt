@@ -1,11 +1,11 @@
 -- Facts about the octets that are normalised, shown for all of them at once. Assumes nothing.
+use Rattle.std.specs.Prelude.{if◌then◌else◌}
 use Prim.Native.Nat.{ℕ, ◌/◌, ◌%◌, ◌≤◌, ◌<◌}
 use mathlib.Core.Path.{◌≡◌, refl, ◌∙◌}
 use mathlib.Core.Bool.{Bool, true, false, not, false≢true}
 use native.Mathlib.Omega.{arith}
 use lib.Dec.{leb, ltb, eqb}
 use borrow.Author.Tests.{ltb-true, ltb-false, leb-true, le-leb, lt-leb}
-use Rattle.lists.specs.Choice.{if◌then◌else◌}
 use Rattle.lists.specs.Lists.{numbers_from}
 use Rattle.lists.proofs.Bools.{split, and_right}
 use Rattle.protocol.specs.Octets.{upper, lower, digit, unreserved, hex, lower_case, upper_case, hex_value, hex_digit}

@@ -1,6 +1,5 @@
 -- What a replacement is to be: the octets that it holds, and the octets of the raw text that it takes. Assumes nothing.
-use Rattle.std.specs.Prelude.{ℕ, ◌≡◌, Bool, not, List, [], ◌∷◌, length}
-use Rattle.lists.specs.Choice.{if◌then◌else◌}
+use Rattle.std.specs.Prelude.{ℕ, ◌≡◌, Bool, not, List, [], ◌∷◌, length, if◌then◌else◌}
 use Rattle.protocol.specs.Normal.{encoded, escape, is_escape, escape_at, is_encoded, replacement}
 use Rattle.escapes.specs.declared.Replacement.{Replacement}
 use Rattle.escapes.specs.declared.Measure.{Measure}

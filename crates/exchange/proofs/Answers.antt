@@ -1,4 +1,5 @@
 -- Two files of one length, of which the lines and the rules that apply say the same in another order, are answered alike. Assumes nothing.
+use Rattle.std.specs.Prelude.{if◌then◌else◌}
 use Prim.Native.Nat.{ℕ}
 use mathlib.Core.Path.{◌≡◌, refl, sym, ap, ◌∙◌}
 use mathlib.Core.List.Memᴰ
@@ -7,7 +8,7 @@ use mathlib.Core.List.{List, map, Memᴰ, Permᴰ}
 use lib.Dec.{eqb}
 use lib.ListN.{length}
 use borrow.Author.Tests.{eqb-true, eqb-false}
-use Rattle.lists.specs.Choice.{if◌then◌else◌, one_if}
+use Rattle.lists.specs.Choice.{one_if}
 use Rattle.lists.specs.Lists.{total}
 use Rattle.lists.proofs.Bools.{split}
 use Rattle.lists.proofs.Appends.{total_map, total_kept}

@@ -1,9 +1,8 @@
 -- Worked exchanges: some that pass all tests of one theorem or of both, and for each test one that fails it alone and is answered otherwise.
 -- proofs/Examples.antt computes them. Assumes nothing.
-use Rattle.std.specs.Prelude.{ℕ, ◌+◌, Bool, ◌&&◌, not, eqb}
+use Rattle.std.specs.Prelude.{ℕ, ◌+◌, Bool, ◌&&◌, not, eqb, if◌then◌else◌}
 use Prim.Native.String.{String}
 use mathlib.Core.List.{List, [], ◌∷◌, ◌++◌, map, flatten}
-use Rattle.lists.specs.Choice.{if◌then◌else◌}
 use Rattle.lists.specs.Lists.{all, any, same, numbers_from}
 use Rattle.protocol.specs.Octets.{is}
 use Rattle.protocol.specs.Text.{octets}

@@ -1,8 +1,7 @@
 -- M-108, "Groups in any order": when neighbouring groups of a file may be exchanged, and what then stays as it was. Assumes nothing.
-use Rattle.std.specs.Prelude.{ℕ, ◌≡◌, Bool, true, false, ◌&&◌, ◌||◌, not}
+use Rattle.std.specs.Prelude.{ℕ, ◌≡◌, Bool, true, false, ◌&&◌, ◌||◌, not, if◌then◌else◌}
 use mathlib.Core.List.{List, [], ◌∷◌, ◌++◌, map, flatten}
 use Rattle.std.proofs.Math.Option.{Option, none, some}
-use Rattle.lists.specs.Choice.{if◌then◌else◌}
 use Rattle.lists.specs.Each.{Each}
 use Rattle.lists.specs.Lists.{empty, all, any, from, same}
 use Rattle.protocol.specs.declared.Decision.{Decision}

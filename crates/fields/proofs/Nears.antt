@@ -1,4 +1,5 @@
 -- The head of a line that begins with a name behind its spaces and tabs, or with an octet that is neither of these. Assumes nothing.
+use Rattle.std.specs.Prelude.{if◌then◌else◌}
 use Prim.Native.Nat.{ℕ, suc, ◌+◌, ◌-◌, ◌≤◌}
 use mathlib.Core.Path.{◌≡◌, refl, sym, ap, ◌∙◌}
 use mathlib.Core.Bool.{true, false, not, ◌&&◌}
@@ -10,7 +11,6 @@ use lib.Seq.{drop-drop}
 use borrow.Author.Tests.{lt-leb, leb-true, eqb-false}
 use types.Run.{OneOf, hit, miss}
 use denote.Enum.Declared.{tag_of}
-use Rattle.lists.specs.Choice.{if◌then◌else◌}
 use Rattle.lists.specs.Lists.{up_to, from, same}
 use Rattle.lists.proofs.Bools.{split, and_left, and_right}
 use Rattle.lists.proofs.Scans.{rest_of, drop_one, drop_up_to}

@@ -1,7 +1,6 @@
 -- The names of the fields that the protocol knows, and the one that a text begins with. Assumes nothing.
-use Rattle.std.specs.Prelude.{ℕ, Bool, List, length, take}
+use Rattle.std.specs.Prelude.{ℕ, Bool, List, length, take, if◌then◌else◌}
 use Prim.Native.String.{String}
-use Rattle.lists.specs.Choice.{if◌then◌else◌}
 use Rattle.protocol.specs.Text.{octets}
 use Rattle.protocol.specs.Kinds.{is_field}
 use Rattle.fields.specs.declared.Field.{Field}

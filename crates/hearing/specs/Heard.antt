@@ -1,6 +1,6 @@
 -- What an agent line or a rule line changes of whose group this is, and of the unread count. Assumes nothing.
-use Rattle.std.specs.Prelude.{ℕ, ◌+◌, Bool, true, false, ◌&&◌, ◌||◌, List, []}
-use Rattle.lists.specs.Choice.{if◌then◌else◌, one_if}
+use Rattle.std.specs.Prelude.{ℕ, ◌+◌, Bool, true, false, ◌&&◌, ◌||◌, List, [], if◌then◌else◌}
+use Rattle.lists.specs.Choice.{one_if}
 use Rattle.protocol.specs.declared.Audience.{Audience}
 use Rattle.protocol.specs.Readable.{everyone, names}
 use Rattle.hearing.specs.declared.Hearing.{Hearing}

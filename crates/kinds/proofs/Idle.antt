@@ -1,10 +1,10 @@
 -- The kind of a line without a field that is known, by its first colon or stop. Assumes nothing.
+use Rattle.std.specs.Prelude.{if◌then◌else◌}
 use Prim.Native.Nat.{ℕ, ◌-◌}
 use mathlib.Core.Path.{◌≡◌, refl, sym, ap, ◌∙◌}
 use mathlib.Core.Bool.{true, false}
 use mathlib.Core.List.{List, [], ◌∷◌}
 use lib.ListN.{length, take, drop}
-use Rattle.lists.specs.Choice.{if◌then◌else◌}
 use Rattle.lists.specs.Lists.{empty, any, up_to, from}
 use Rattle.lists.proofs.Bools.{split}
 use Rattle.lists.proofs.Scans.{drop_up_to}

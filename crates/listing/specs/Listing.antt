@@ -1,6 +1,5 @@
 -- A list of paths: where each stands, and what the memory lent for its answers holds. Assumes nothing.
-use Rattle.std.specs.Prelude.{ℕ, ◌-◌, ◌<◌, ◌≡◌, false, List, ◌∷◌, eqb, length, drop, get_or}
-use Rattle.lists.specs.Choice.{if◌then◌else◌}
+use Rattle.std.specs.Prelude.{ℕ, ◌-◌, ◌<◌, ◌≡◌, false, List, ◌∷◌, eqb, length, drop, get_or, if◌then◌else◌}
 use Rattle.protocol.specs.Lines.{place_at}
 use Rattle.protocol.specs.Text.{octets_at}
 use Rattle.protocol.specs.Refusals.{path_rows, refusal, decrease, last_end}

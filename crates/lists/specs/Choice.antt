@@ -1,10 +1,5 @@
--- A choice between two values by a test. Assumes nothing.
-use Rattle.std.specs.Prelude.{ℕ, Bool, true, false}
-
-infix 5 if◌then◌else◌
-abbrev pub if◌then◌else◌ {ℓ} : {A : Type ℓ} → Bool → A → A → A
-if◌then◌else◌ true a b = a
-if◌then◌else◌ false a b = b
+-- A test as a number. Assumes nothing.
+use Rattle.std.specs.Prelude.{ℕ, Bool, if◌then◌else◌}
 
 -- 1 where the test passes
 abbrev pub one_if : Bool → ℕ

@@ -1,6 +1,5 @@
 -- What becomes of one run of a pattern, raw. Assumes nothing.
-use Rattle.std.specs.Prelude.{ℕ, Bool, List, length, leb}
-use Rattle.lists.specs.Choice.{if◌then◌else◌}
+use Rattle.std.specs.Prelude.{ℕ, Bool, List, length, leb, if◌then◌else◌}
 use Rattle.protocol.specs.Normal.{normal}
 use Rattle.protocol.specs.Answers.{at_front}
 use Rattle.normal.specs.declared.Written.{Written}

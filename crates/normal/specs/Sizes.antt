@@ -1,6 +1,5 @@
 -- How many octets there are, where they fit a room. Assumes nothing.
-use Rattle.std.specs.Prelude.{ℕ, leb}
-use Rattle.lists.specs.Choice.{if◌then◌else◌}
+use Rattle.std.specs.Prelude.{ℕ, leb, if◌then◌else◌}
 use Rattle.normal.specs.declared.Size.{Size}
 
 -- n octets, if they fit the room

@@ -1,5 +1,6 @@
 -- A line that is no agent line, told by its first octet or by its head, and one that has no known field, told by its first octet; where what is
 -- examined of a line ends. Assumes nothing.
+use Rattle.std.specs.Prelude.{if◌then◌else◌}
 use Prim.Native.Nat.{ℕ, ◌+◌, ◌≤◌}
 use mathlib.Core.Path.{◌≡◌, refl, sym, ap, ◌∙◌}
 use mathlib.Core.Bool.{Bool, true, false, false≢true}
@@ -9,7 +10,6 @@ use types.Run.{OneOf, miss}
 use denote.Enum.Declared.{tag_of}
 use native.Mathlib.Omega.{arith}
 use lib.ListN.{length, drop}
-use Rattle.lists.specs.Choice.{if◌then◌else◌}
 use Rattle.lists.specs.Lists.{from}
 use Rattle.lists.proofs.Bools.{split}
 use Rattle.lists.proofs.Parts.{from_stop}

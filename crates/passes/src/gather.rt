@@ -1,7 +1,6 @@
 // What the agent and rule lines of a file come to.
 
-ghost use Rattle.std.specs.Prelude.{◌≡◌, ◌||◌, ◌+◌, ◌≤◌, ◌<◌, ◌^◌, length};
-ghost use Rattle.lists.specs.Choice.{if◌then◌else◌};
+ghost use Rattle.std.specs.Prelude.{◌≡◌, ◌||◌, ◌+◌, ◌≤◌, ◌<◌, ◌^◌, length, if◌then◌else◌};
 ghost use Rattle.protocol.specs.Lines.{skipped};
 ghost use Rattle.protocol.specs.declared.Kind.{Kind};
 ghost use Rattle.protocol.specs.Kinds.{kind_of, unreadable_kind};

@@ -1,4 +1,5 @@
 -- What the walk costs: at most the pattern's weight times the octets of the path. Assumes nothing.
+use Rattle.std.specs.Prelude.{if◌then◌else◌}
 use Prim.Native.Nat.{ℕ, ◌+◌, ◌-◌, ◌*◌, ◌≤◌}
 use mathlib.Core.Bool.{Bool, true, false}
 use mathlib.Core.List.{List, [], ◌∷◌}
@@ -7,7 +8,6 @@ use native.Mathlib.Nat.{mul-le-mul_left, mul-le-mul_right, add-mul}
 use lib.ListN.{length, drop, length-drop}
 use lib.Dec.{leb, eqb}
 use borrow.Author.Tests.{eqb-true, eqb-false, leb-true, leb-false}
-use Rattle.lists.specs.Choice.{if◌then◌else◌}
 use Rattle.lists.specs.Lists.{up_to, total}
 use Rattle.lists.proofs.Bools.{split}
 use Rattle.protocol.specs.declared.Walked.{Walked}

@@ -1,4 +1,5 @@
 -- A pattern in which star and dollar are plain octets is one run without stars, and matches where it begins the path. Assumes nothing.
+use Rattle.std.specs.Prelude.{if◌then◌else◌}
 use Prim.Native.Nat.{ℕ, zero, suc, ◌+◌, ◌-◌, ◌/◌, ◌%◌}
 use Prim.Native.Char.{code}
 use mathlib.Core.Path.{◌≡◌, refl, sym, ap, ◌∙◌}
@@ -9,7 +10,6 @@ use native.Mathlib.Omega.{arith}
 use lib.Dec.{leb, ltb}
 use lib.ListN.{length, get_or}
 use borrow.Author.Tests.{leb-true, eqb-true, eqb-false, ne_eqb, not-true}
-use Rattle.lists.specs.Choice.{if◌then◌else◌}
 use Rattle.lists.specs.Lists.{all, up_to}
 use Rattle.lists.proofs.Bools.{split, and_left, and_right}
 use Rattle.protocol.specs.Octets.{is, upper, lower, digit, unreserved, hex, upper_case, hex_digit}

@@ -1,7 +1,6 @@
 -- M-103: "a table of all 256 octets": a class number for each octet, and what it tells. Assumes nothing.
-use Rattle.std.specs.Prelude.{ℕ, ◌≡◌, Bool, true, false, not, ◌&&◌, ◌||◌, List, [], ◌∷◌, ◌++◌, map, leb, eqb, length, get_or}
+use Rattle.std.specs.Prelude.{ℕ, ◌≡◌, Bool, true, false, not, ◌&&◌, ◌||◌, List, [], ◌∷◌, ◌++◌, map, leb, eqb, length, get_or, if◌then◌else◌}
 use Prim.Native.Char.{code}
-use Rattle.lists.specs.Choice.{if◌then◌else◌}
 use Rattle.lists.specs.Lists.{up_to, numbers_from}
 use Rattle.protocol.specs.declared.Sort.{Sort}
 use Rattle.protocol.specs.Octets.{within, is, token, unreserved, hex, hex_value, blank, line_end, lower_case, upper_case}

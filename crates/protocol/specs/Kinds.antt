@@ -1,8 +1,7 @@
 -- The kind of one line, given without its line ending. No leading mark is skipped here. Assumes nothing.
-use Rattle.std.specs.Prelude.{ℕ, ◌+◌, Bool, true, false, length}
+use Rattle.std.specs.Prelude.{ℕ, ◌+◌, Bool, true, false, length, if◌then◌else◌}
 use Prim.Native.String.{String}
 use mathlib.Core.List.{List, [], ◌∷◌, tail}
-use Rattle.lists.specs.Choice.{if◌then◌else◌}
 use Rattle.lists.specs.Lists.{empty, any, up_to, from}
 use Rattle.protocol.specs.declared.Place.{Place}
 use Rattle.protocol.specs.declared.Side.{Side}

@@ -1,7 +1,6 @@
 -- What it means that a pattern matches a normalised path. No walk is in it. Assumes nothing.
-use Rattle.std.specs.Prelude.{ℕ, ◌≡◌, true}
+use Rattle.std.specs.Prelude.{ℕ, ◌≡◌, true, if◌then◌else◌}
 use mathlib.Core.List.{List, [], ◌∷◌, ◌++◌, tail}
-use Rattle.lists.specs.Choice.{if◌then◌else◌}
 use Rattle.protocol.specs.Pattern.{Shape, is_star}
 
 -- what fills the next star: nothing where no filling is given

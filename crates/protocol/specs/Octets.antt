@@ -1,7 +1,6 @@
 -- The sorts of octets. An octet is a number below 256, and `code "a"` is the octet of the ASCII character a. Assumes nothing.
-use Rattle.std.specs.Prelude.{ℕ, ◌+◌, ◌-◌, Bool, ◌&&◌, ◌||◌, leb, ltb, eqb}
+use Rattle.std.specs.Prelude.{ℕ, ◌+◌, ◌-◌, Bool, ◌&&◌, ◌||◌, leb, ltb, eqb, if◌then◌else◌}
 use Prim.Native.Char.{Char, code}
-use Rattle.lists.specs.Choice.{if◌then◌else◌}
 
 -- x is one of the octets from a to b, both included
 abbrev pub within : ℕ → ℕ → ℕ → Bool

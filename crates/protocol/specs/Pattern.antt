@@ -1,7 +1,7 @@
 -- What a raw pattern stands for: octets and stars, perhaps an end mark; and its weight and its runs. Assumes nothing.
-use Rattle.std.specs.Prelude.{ℕ, ◌+◌, Bool, true, false, length}
+use Rattle.std.specs.Prelude.{ℕ, ◌+◌, Bool, true, false, length, if◌then◌else◌}
 use mathlib.Core.List.{List, [], ◌∷◌, ◌++◌, drop_last}
-use Rattle.lists.specs.Choice.{if◌then◌else◌, one_if}
+use Rattle.lists.specs.Choice.{one_if}
 use Rattle.lists.specs.Lists.{up_to}
 use Rattle.protocol.specs.declared.Dialect.{Dialect}
 use Rattle.protocol.specs.Octets.{is}

@@ -1,6 +1,5 @@
 -- What makes an agent's value and a rule's pattern readable, and whom a value names. Assumes nothing.
-use Rattle.std.specs.Prelude.{ℕ, Bool, true, false, ◌&&◌, ◌||◌, not, List, [], ◌∷◌}
-use Rattle.lists.specs.Choice.{if◌then◌else◌}
+use Rattle.std.specs.Prelude.{ℕ, Bool, true, false, ◌&&◌, ◌||◌, not, List, [], ◌∷◌, if◌then◌else◌}
 use Rattle.lists.specs.Lists.{empty, up_to, same}
 use Rattle.protocol.specs.Octets.{within, token}
 use Rattle.protocol.specs.Text.{octets, begins, same_ignoring_case}

@@ -1,6 +1,5 @@
 -- The table of refusals, and which of them each question tests, in which order. Assumes nothing.
-use Rattle.std.specs.Prelude.{ℕ, zero, suc, Bool, false, ◌||◌, not, List, [], ◌∷◌, ◌++◌, leb, ltb, eqb, length}
-use Rattle.lists.specs.Choice.{if◌then◌else◌}
+use Rattle.std.specs.Prelude.{ℕ, zero, suc, Bool, false, ◌||◌, not, List, [], ◌∷◌, ◌++◌, leb, ltb, eqb, length, if◌then◌else◌}
 use Rattle.lists.specs.Lists.{empty, all, any}
 use Rattle.protocol.specs.declared.Dialect.{Dialect}
 use Rattle.protocol.specs.Octets.{is, token, line_end}

@@ -1,6 +1,6 @@
 -- "The rules that apply", and the unread count: of any entries, with the octets that their places point at in the file. Assumes nothing.
-use Rattle.std.specs.Prelude.{ℕ, Bool, false, ◌&&◌, not, List, [], ◌∷◌, ◌++◌, eqb}
-use Rattle.lists.specs.Choice.{if◌then◌else◌, one_if}
+use Rattle.std.specs.Prelude.{ℕ, Bool, false, ◌&&◌, not, List, [], ◌∷◌, ◌++◌, eqb, if◌then◌else◌}
+use Rattle.lists.specs.Choice.{one_if}
 use Rattle.lists.specs.Lists.{empty, any, total}
 use Rattle.protocol.specs.declared.Side.{Side}
 use Rattle.protocol.specs.declared.Rule.{Rule}

@@ -1,7 +1,6 @@
 -- "The walk", document 01's own term: which runs stand, and how many pairs of octets are compared on the way. `n` is the number of pairs compared before.
 -- `path` is the whole normalised path, and `t` what is left of it from the place k on. Assumes nothing.
-use Rattle.std.specs.Prelude.{ℕ, ◌+◌, ◌-◌, Bool, true, false, List, [], ◌∷◌, length, drop, leb, eqb}
-use Rattle.lists.specs.Choice.{if◌then◌else◌}
+use Rattle.std.specs.Prelude.{ℕ, ◌+◌, ◌-◌, Bool, true, false, List, [], ◌∷◌, length, drop, leb, eqb, if◌then◌else◌}
 use Rattle.protocol.specs.declared.Tried.{Tried}
 use Rattle.protocol.specs.declared.Walked.{Walked}
 use Rattle.protocol.specs.Pattern.{Shape, first_run, later_runs}

@@ -1,6 +1,5 @@
 -- What the octets that are due have to be, and the octets that leave nothing due. Assumes nothing.
-use Rattle.std.specs.Prelude.{ℕ, zero, suc, Bool, not, List, [], ◌∷◌, replicate}
-use Rattle.lists.specs.Choice.{if◌then◌else◌}
+use Rattle.std.specs.Prelude.{ℕ, zero, suc, Bool, not, List, [], ◌∷◌, replicate, if◌then◌else◌}
 use Rattle.protocol.specs.Octets.{within}
 use Rattle.protocol.specs.Readable.{Range, ◌to◌, holds, utf8_tail, never, character_forms, due_after}
 use Rattle.readable.specs.declared.Due.{Due}

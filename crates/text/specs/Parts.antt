@@ -1,6 +1,5 @@
 -- Sorts of octets that a text is searched for, and where the first of a sort stands. Assumes nothing.
-use Rattle.std.specs.Prelude.{ℕ, Bool, false, not, List, [], ◌∷◌, eqb, length, drop}
-use Rattle.lists.specs.Choice.{if◌then◌else◌}
+use Rattle.std.specs.Prelude.{ℕ, Bool, false, not, List, [], ◌∷◌, eqb, length, drop, if◌then◌else◌}
 use Rattle.lists.specs.Lists.{up_to}
 use Rattle.protocol.specs.declared.Place.{Place}
 use Rattle.protocol.specs.declared.Sort.{Sort}

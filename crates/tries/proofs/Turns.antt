@@ -1,4 +1,5 @@
 -- What one turn of a comparison does, at an index. Assumes nothing.
+use Rattle.std.specs.Prelude.{if◌then◌else◌}
 use Prim.Native.Nat.{ℕ, zero, suc, ◌+◌, ◌≤◌, ◌<◌}
 use mathlib.Core.Path.{◌≡◌, refl, sym, ap, ◌∙◌}
 use mathlib.Core.Bool.{Bool, true, false}
@@ -8,7 +9,6 @@ use lib.Dec.{eqb}
 use lib.ListN.{length, take, drop, get_or, drop_of_length-le}
 use lib.Seq.{drop-drop}
 use borrow.Author.Tests.{eq-eqb, ne_eqb, eqb-true, eqb-false}
-use Rattle.lists.specs.Choice.{if◌then◌else◌}
 use Rattle.lists.proofs.Bools.{split}
 use Rattle.lists.proofs.Scans.{drop_one}
 use Rattle.protocol.specs.declared.Tried.{Tried}

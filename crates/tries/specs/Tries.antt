@@ -1,6 +1,5 @@
 -- Tries that end at a run's first octet. Assumes nothing.
-use Rattle.std.specs.Prelude.{ℕ, ◌+◌, true, false, List, [], ◌∷◌, eqb}
-use Rattle.lists.specs.Choice.{if◌then◌else◌}
+use Rattle.std.specs.Prelude.{ℕ, ◌+◌, true, false, List, [], ◌∷◌, eqb, if◌then◌else◌}
 use Rattle.protocol.specs.declared.Tried.{Tried}
 
 -- the run's first octet a, compared with those of the places up to the first that is equal

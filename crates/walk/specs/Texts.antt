@@ -1,6 +1,5 @@
 -- The walk of a raw pattern: cut at its stars first, each run normalised by itself into the lent scratch. Assumes nothing.
-use Rattle.std.specs.Prelude.{ℕ, Bool, true, false, ◌||◌, List, [], ◌∷◌, map, ltb, length}
-use Rattle.lists.specs.Choice.{if◌then◌else◌}
+use Rattle.std.specs.Prelude.{ℕ, Bool, true, false, ◌||◌, List, [], ◌∷◌, map, ltb, length, if◌then◌else◌}
 use Rattle.lists.specs.Lists.{all, up_to}
 use Rattle.protocol.specs.declared.Dialect.{Dialect}
 use Rattle.protocol.specs.declared.Walked.{Walked}

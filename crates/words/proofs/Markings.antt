@@ -1,4 +1,5 @@
 -- Marks in the place of octets: which octets get one, where the first stands, and where there is none. Assumes nothing.
+use Rattle.std.specs.Prelude.{if◌then◌else◌}
 use Prim.Native.Nat.{ℕ, zero, suc, ◌+◌, ◌-◌, ◌*◌, ◌/◌, ◌%◌, ◌^◌, ◌≤◌, ◌<◌, max}
 use mathlib.Core.Path.{◌≡◌, refl, ap, ◌∙◌}
 use mathlib.Core.Bool.{Bool, true, false, not, ◌||◌, true≢false}
@@ -9,7 +10,6 @@ use lib.Dec.{leb}
 use lib.ListN.{length}
 use lib.Bits.{bit_and, bit_or, bit_xor, and_le_r, and_mask, and_high, or_shr, xor_shr}
 use borrow.Author.Tests.{leb-true, leb-false}
-use Rattle.lists.specs.Choice.{if◌then◌else◌}
 use Rattle.lists.specs.Lists.{any, up_to}
 use Rattle.lists.proofs.Bools.{split}
 use Rattle.lists.proofs.Parts.{up_to_stop, up_to_on}

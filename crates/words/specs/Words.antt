@@ -1,6 +1,5 @@
 -- Octets as one number, and marks in the place of some of them. Assumes nothing.
-use Rattle.std.specs.Prelude.{ℕ, zero, suc, ◌/◌, ◌%◌, Bool, not, List, [], ◌∷◌, eqb}
-use Rattle.lists.specs.Choice.{if◌then◌else◌}
+use Rattle.std.specs.Prelude.{ℕ, zero, suc, ◌/◌, ◌%◌, Bool, not, List, [], ◌∷◌, eqb, if◌then◌else◌}
 use Rattle.protocol.specs.Octets.{within}
 
 -- the n lowest octets of a number, the lowest first

@@ -1,9 +1,9 @@
 -- `text::line_end_marks` meets its contract: CR is marked, or LF is. Assumes nothing.
+use Rattle.std.specs.Prelude.{if◌then◌else◌}
 use Prim.Native.Nat.{ℕ}
 use mathlib.Core.Path.{◌≡◌, ap, ap₂, ◌∙◌}
 use mathlib.Core.Bool.{Bool, true, ◌||◌}
 use borrow.Author.Rules.{rules}
-use Rattle.lists.specs.Choice.{if◌then◌else◌}
 use Rattle.protocol.specs.Octets.{line_end}
 use Rattle.words.specs.Words.{among, mark}
 use Rattle.words.proofs.Words.{each_as}
