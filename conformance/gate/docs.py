@@ -22,7 +22,7 @@ COLUMNS = 120
 ALLOWED = set(
     """
     requires ensures unfolding unfoldable abbrev refl rw split omega usize u8 const match read write memchr ptr
-    read_to_end Read Write args loop -spec rattle-kit-5b rattle-kit-13f
+    read_to_end Read Write args loop rattle-kit-5b rattle-kit-13f
     allow disallow user-agent sitemap drydockbot ExampleBot another-bot
     g++ gcc python3 pkg-config cargo rustup -lrobots --release -O3
     < <= file: old: new: stdin stdout
