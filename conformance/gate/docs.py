@@ -6,8 +6,8 @@
 FOLDER is the repository. The docs are README.md and docs/*.md. A name is what stands in backquotes there: a file or a
 folder, a function, a type, a definition, a law, a must-fail edit, a make target, an example of the sources. With `::`
 or a dot it has to be defined in the crate, file or module that is named before it. Words that are no names are listed
-below. Paths are looked at outside backquotes too. A page of changes may name what is gone. docs_test.py gives it names
-that are wrong.
+below. Paths are looked at outside backquotes too. A page of changes, and that of the port, may name what is gone.
+docs_test.py gives it names that are wrong.
 """
 
 import fnmatch
@@ -222,7 +222,7 @@ def paths_outside(sources, line):
 
 def page_lines(sources, place, text):
     """Yields a line for each name in a page that is nowhere, and for each line that is too long."""
-    told_of_changes = "changes" in place.lower()
+    told_of_changes = "changes" in place.lower() or place == "docs/PORT.md"
     for number, line in enumerate(text.splitlines(), 1):
         found = [] if told_of_changes else list(paths_outside(sources, line))
         if not told_of_changes and not line.startswith("    "):
