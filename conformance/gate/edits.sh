@@ -1,8 +1,8 @@
 #!/bin/sh
 # What the refusals of must-fail edits rest on. Given a file with what 'rt ci' or 'rt must-fail' printed, and the crates
 # whose edits were tried (none: all), it fails where an edit wasn't refused, and where its refusal shows nothing: where
-# the edited text can't be read or the edited definition is ill-formed, where a proof only names what the edit took away,
-# and where the prover only met a limit of its own.
+# the edited text can't be read or the edited definition is ill-formed, where a proof only names what the edit took
+# away, and where the prover only met a limit of its own.
 cd "$(dirname "$0")/../.." && . conformance/gate/common.sh || exit 2
 [ $# -ge 1 ] && [ -r "$1" ] ||
     { echo "edits.sh: give it the file with what rt ci or rt must-fail printed" >&2; exit 2; }

@@ -58,7 +58,15 @@ ROWS = {
 
 # rows that the program never gives, so that the scripts have no sentence for them: a file that is too long is an input
 # that is too long, and no buffer, pattern, single line, list or dialect is given to it
-NOT_OF_THE_PROGRAM = {"too_long", "no_room", "bad_pattern", "several_lines", "bad_ends", "short_answers", "unknown_dialect"}
+NOT_OF_THE_PROGRAM = {
+    "too_long",
+    "no_room",
+    "bad_pattern",
+    "several_lines",
+    "bad_ends",
+    "short_answers",
+    "unknown_dialect",
+}
 
 # document 02, M-113: the dialects by the header's names without ROBOTS_; the functions of a decision and of a list take
 # one first

@@ -1,7 +1,7 @@
 #!/bin/sh
 # What can be said of the sources before anything is proved: the tools are there, header, bindings and scripts have the
-# exported functions and the refusals, and the docs name what is there. That the files are in rt's layout is held by rt ci
-# and by rt all test. test.sh and 'make quick' begin with it.
+# exported functions and the refusals, and the docs name what is there. That the files are in rt's layout is held by
+# rt ci and by rt all test. test.sh and 'make quick' begin with it.
 cd "$(dirname "$0")/../.." && . conformance/gate/common.sh || exit 2
 no_arguments $# "'sh conformance/gate/sources.sh'"
 
