@@ -239,9 +239,7 @@ def page_lines(sources, place, text):
 def faults(folder):
     root = pathlib.Path(folder)
     sources = Sources(root)
-    # docs/PORT.md tells what was called otherwise before
-    pages = [root / "README.md", *sorted(set(root.glob("docs/**/*.md")) - {root / "docs/PORT.md"})]
-    pages = [page for page in pages if page.is_file()]
+    pages = [page for page in [root / "README.md", *sorted(root.glob("docs/**/*.md"))] if page.is_file()]
     if not pages:
         return ["README.md and docs/: there is no page"]
     lines = []
