@@ -15,6 +15,7 @@ use passes::audience::Chosen;
 use protocol::{Audience, ClassTable, Decision, Dialect, Place};
 
 // Why a decision is refused. Any number but 0 and 1 is no dialect's.
+#[tactic(auto, using(protocol::proofs::Limits::too_long_lem, crate::proofs::Refusing::unknown_rows, crate::proofs::Refusing::known_rows, crate::proofs::Refusing::bad_name_lem, crate::proofs::Refusing::good_name))]
 pub fn decide_refusal(
     classes: &ClassTable,
     file: &[u8],

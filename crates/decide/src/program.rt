@@ -6,6 +6,7 @@ ghost use Rattle.output.specs.Written.{Holds};
 use output::Line;
 
 // The name is the first line of the input, the path the second, and the file the rest.
+#[tactic(auto, using(protocol::proofs::Limits::output_refused, crate::proofs::Outputs::output_decided))]
 pub fn output(input: &[u8]) -> Line
     ensures { Holds (output input.now) result }
 {

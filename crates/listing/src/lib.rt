@@ -40,6 +40,7 @@ pub fn is_short(count: usize, refusals: usize, sides: usize, lines: usize) -> bo
 }
 
 // Why the call is refused: 0 if it isn't.
+#[tactic(auto, using(protocol::proofs::Refused::refusal_here, protocol::proofs::Refused::refusal_on, protocol::proofs::Refused::unknown_dialect_lem, crate::proofs::Refusing::long_file, crate::proofs::Refusing::bad_name_lem, crate::proofs::Refusing::good_name), unfolding(protocol::specs::Refusals::refusal))]
 pub fn call_refusal(
     classes: &ClassTable,
     file: &[u8],

@@ -81,6 +81,7 @@ fn walk_unchanged(pattern: &[u8], path: &[u8]) -> Walked
 }
 
 // The walk of a pattern and a path of which neither is refused.
+#[tactic(auto, using(protocol::proofs::Sizes::normal_size, protocol::proofs::Limits::path_known, protocol::proofs::Limits::path_room, normal::proofs::Literal::kept_path, crate::proofs::Refusing::good_path, crate::proofs::Refusing::count_fits))]
 fn walk_path(pattern: &[u8], path: &[u8]) -> Walked
     requires { match_refusal pattern.now path.now ≡ 0 }
     ensures { result ≡ walk (shape_of pattern.now) (normal_path path.now) }

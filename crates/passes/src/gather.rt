@@ -173,6 +173,7 @@ fn first_read(file: &[u8], whole: bool, first: Place) -> Position
 
 // Behind a line of a group that doesn't apply: the next line that may be an agent line, or the file's end where no other names those whose groups
 // apply.
+#[tactic(auto, using(lines::proofs::Passing::agents_further, crate::proofs::Turns::next_none, crate::proofs::Turns::next_some))]
 fn next_group(file: &[u8], at: Position, only: bool) -> Position
     requires { (at.number.number ≤ at.place.offset + 1) × (at.place.offset < length file.now) × (length file.now ≤ 512000) }
     ensures { Jumped file.now at (next_read file.now at.place only) result }

@@ -28,6 +28,7 @@ fn holds_outside(path: &[u8]) -> bool
 }
 
 // Why a path is refused, whatever is asked about it: 0 if it isn't.
+#[tactic(auto, using(crate::proofs::Refused::path_empty, crate::proofs::Refused::path_long, crate::proofs::Refused::path_start, crate::proofs::Refused::path_octets))]
 pub fn path_refusal(path: &[u8]) -> usize
     ensures { result ≡ refusal (path_rows path.now) }
 {
@@ -60,6 +61,7 @@ pub fn normalise_refusal(path: &[u8], room: usize) -> usize
 }
 
 // A path into a lent buffer: its front is filled, the rest stays; nothing is written where it is refused.
+#[tactic(auto, using(protocol::proofs::NormaliseAnswer::normalise_refused, protocol::proofs::NormaliseAnswer::normalise_keeps, protocol::proofs::NormaliseAnswer::normalise_answered, protocol::proofs::NormaliseAnswer::normalise_fills, crate::proofs::Refused::room_known), unfolding(protocol::specs::Normal::normal_path))]
 pub fn normalise(path: &[u8], buffer: &mut [u8]) -> Normalised
     ensures { (result ≡ normalise_of path.now buffer.old) × (buffer.new ≡ normalise_buffer path.now buffer.old) }
 {

@@ -1,3 +1,3 @@
 pub mod Characters
 pub mod Naming
-mod BadNames
+pub mod BadNames

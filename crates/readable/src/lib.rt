@@ -136,6 +136,7 @@ fn is_name(classes: &ClassTable, v: &[u8]) -> bool
 }
 
 // The value "*".
+#[tactic(auto, using(lists::proofs::Tests::same_length, lists::proofs::Tests::same_one), unfolding(protocol::specs::Text::octets))]
 pub fn is_everyone(v: &[u8]) -> bool
     ensures { result ≡ same v.now everyone }
 {
@@ -185,6 +186,7 @@ pub fn names(classes: &ClassTable, value: &[u8], who: &[u8]) -> bool
 }
 
 // A crawler's name that is refused.
+#[tactic(auto, using(crate::proofs::BadNames::name_empty, crate::proofs::BadNames::name_long, crate::proofs::BadNames::name_octets))]
 pub fn is_bad_name(classes: &ClassTable, name: &[u8]) -> bool
     requires { classes.now ≡ class_table }
     ensures { result ≡ (bad_name name.now).given }
