@@ -1,7 +1,6 @@
 -- `matching::walk_path` meets its contract: nothing is refused, so the path fits the room, and the count a number. Assumes nothing.
 use Rattle.std.proofs.Common.{◌≡◌, ◌≤◌, ◌*◌, ◌∙◌, ℕ, List, false, length, sym, arith}
 use Rattle.protocol.specs.Normal.{normal_path}
-use Rattle.protocol.specs.Pattern.{shape_of}
 use Rattle.protocol.proofs.Sizes.{normal_size}
 use Rattle.protocol.proofs.Limits.{path_known}
 use Rattle.normal.proofs.Literal.{kept_path}
