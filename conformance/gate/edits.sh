@@ -25,7 +25,9 @@ refuse_if '^rt: must-fail .*\(only because a proof file names' 'only makes a pro
 # what stands first of what the prover said
 refused='^rt: must-fail [^ ]*: refused, as it must be'
 refuse_if "$refused: (note: )?(\./)?specs/" 'is ill-formed'
-refuse_if "$refused.*(that can be named from here|has no field|is not in scope)" 'only makes a proof unfit for the code'
+unfit='only makes a proof unfit for the code'
+refuse_if "$refused.*(that can be named from here|has no field|is not in scope)" "$unfit"
+refuse_if "$refused.*declarations? that depends? on" "$unfit"
 
 tried=0
 for crate in "$@"; do
