@@ -6,7 +6,8 @@
 FOLDER is the repository. The docs are README.md and docs/*.md. A name is what stands in backquotes there: a file or a
 folder, a function, a type, a definition, a law, a must-fail edit, a make target, an example of the sources. With `::`
 or a dot it has to be defined in the crate, file or module that is named before it. Words that are no names are listed
-below. Paths are looked at outside backquotes too. A page of changes, and that of the port, may name what is gone.
+below. Paths are looked at outside backquotes too. A page of changes, and those of the port
+and of the pass over the design, may name what is gone.
 docs_test.py gives it names that are wrong.
 """
 
@@ -45,15 +46,16 @@ def uncommented(text, mark):
 
 
 def antt(text):
-    """Definitions, laws, fields and constructors: a name, perhaps with parameters, and a type."""
+    """Definitions, laws, fields and constructors: a name, perhaps with parameters, and a type; and sets of rules."""
     typed = r"(?m)^ *(?:(?:abbrev|unfoldable|pub) )*(?:(?:record|data) )?([^\s():,{}=]+)(?: \([^)]*\)| \{[^}]*\})* : "
-    return re.findall(typed, uncommented(text, "--"))
+    text = uncommented(text, "--")
+    return re.findall(typed, text) + re.findall(r"(?m)^ *(?:pub )?ruleset (\S+)", text)
 
 
 def rattle(text):
     text = uncommented(text, "//")
     found = re.findall(r"\b(?:fn|struct|enum|const|mod|type)\s+(\w+)", text)
-    for body in re.findall(r"(?ms)^\s*(?:pub )?(?:struct|enum) \w+ \{(.*?)^\}", text):
+    for body in re.findall(r"(?ms)^\s*(?:pub )?(?:struct|enum) \w+(?:<[^>]*>)? \{(.*?)^\}", text):
         found += re.findall(r"(?m)^ +(?:pub )?(\w+)", body)
     return found
 
@@ -222,7 +224,7 @@ def paths_outside(sources, line):
 
 def page_lines(sources, place, text):
     """Yields a line for each name in a page that is nowhere, and for each line that is too long."""
-    told_of_changes = "changes" in place.lower() or place == "docs/PORT.md"
+    told_of_changes = "changes" in place.lower() or place in ("docs/PORT.md", "docs/DESIGN-PASS.md")
     for number, line in enumerate(text.splitlines(), 1):
         found = [] if told_of_changes else list(paths_outside(sources, line))
         if not told_of_changes and not line.startswith("    "):

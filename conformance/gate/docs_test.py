@@ -91,7 +91,7 @@ def main():
             if len(lines) != 1 or not lines[0].startswith("README.md:2: "):
                 failures.append(f"README.md with {wrong} in line 2: {lines}")
         page.write_text("right\n", encoding="utf-8")
-        for changes in ["docs/CHANGES.md", "docs/changes/1.md", "docs/PORT.md"]:
+        for changes in ["docs/CHANGES.md", "docs/changes/1.md", "docs/PORT.md", "docs/DESIGN-PASS.md"]:
             (root / changes).parent.mkdir(exist_ok=True)
             (root / changes).write_text("`gone` crates/gone\n" + "x" * 121, encoding="utf-8")
             lines = docs.faults(folder)

@@ -1,7 +1,8 @@
 -- After the last round the lent memory holds the answers, which are document 02's for the whole list. Assumes nothing.
 use Prim.Native.Nat.{ℕ, ◌≤◌, ◌<◌}
-use mathlib.Core.Path.{◌≡◌, sym, ap, subst, ◌∙◌}
-use mathlib.Core.List.{List, [], map}
+use mathlib.Core.Path.{◌≡◌, refl, sym, ap, subst, ◌∙◌}
+use mathlib.Core.Bool.{Bool}
+use mathlib.Core.List.{List, [], ◌∷◌, map}
 use native.Mathlib.Omega.{arith}
 use lib.ListN.{length, get_or, length-map}
 use borrow.Author.Tests.{ltb-false, eqb-true, not-false}
@@ -9,27 +10,28 @@ use Rattle.lists.proofs.Bools.{or_left, or_right}
 use Rattle.lists.proofs.Scans.{map_at}
 use Rattle.protocol.specs.declared.Dialect.{Dialect}
 use Rattle.protocol.specs.declared.Audience.{Audience}
-use Rattle.protocol.specs.declared.Decision.{Decision}
+use Rattle.protocol.specs.Forms.{Decision}
 use Rattle.protocol.specs.declared.Rule.{Rule}
 use Rattle.protocol.specs.Entries.{entries}
 use Rattle.protocol.specs.Rules.{audience, rules_for, applying}
-use Rattle.protocol.specs.Refusals.{dialect_of, path_rows, refusal, decrease, last_end, decide_refusal}
+use Rattle.protocol.specs.declared.Refusal.{Refusal}
+use Rattle.protocol.specs.Outcomes.{refusal_number}
+use Rattle.protocol.specs.Refusals.{◌when◌, unknown_dialect, too_long, bad_name, bad_ends, short_answers, dialect_of, path_rows, refusal, decrease, last_end, decide_refusal}
 use Rattle.protocol.specs.Decision.{readable_rules}
 use Rattle.protocol.specs.Answers.{decide, side_number, at_front, refused_decision}
 use Rattle.protocol.specs.Batch.{Batch, batch_refusal, paths_of, decisions, column, refusals_after, sides_after, lines_after}
 use Rattle.protocol.specs.Meaning.{readable_for}
 use Rattle.protocol.proofs.Refused.{unless_answered}
 use Rattle.protocol.proofs.Demands.{decide_refusal_lem}
-use Rattle.protocol.proofs.BatchAnswer.{length_paths, path_at_lem, batch_call, batch_room, own_refusal}
+use Rattle.protocol.proofs.Outcomes.{refused_number}
+use Rattle.protocol.proofs.BatchAnswer.{length_paths, path_at_lem, batch_refused, batch_call, batch_room, own_refusal}
 use Rattle.hearing.specs.Heard.{whom}
-use Rattle.listing.specs.Listing.{GoodEnds, path_at, Tail, side_for, Cleared, Finished}
-use Rattle.listing.proofs.Tails.{tail_refl, column_known}
+use Rattle.listing.specs.Listing.{GoodEnds, path_at}
+use Rattle.listing.specs.Memory.{Memory, Fits, Tail}
+use Rattle.listing.proofs.Tails.{column_known}
 use Rattle.collecting.specs.Left.{first_pass, left}
 use Rattle.collecting.proofs.Rounds.{left_all}
-use Rattle.leading.specs.declared.Leader.{Leader}
-use Rattle.leading.specs.Leading.{no_leader}
-use Rattle.rounds.specs.Rounds.{Memory, Fits, Stays, leader_in, led_over, Round}
-use Rattle.rounds.proofs.Rounding.{stays_trans}
+use Rattle.rounds.specs.Rounds.{Round}
 use Rattle.batch.specs.Asked.{Answered}
 use Rattle.batch.proofs.Led.{over_side, over_line}
 
@@ -38,42 +40,30 @@ rules_applying : (file name : List ℕ) (a : Audience) → a ≡ audience file (
 unfolding applying
 rules_applying file name a e = left_all file name a ∙ ap (λ (x : Audience). readable_rules file (rules_for file (entries file) name x)) e
 
-pub round_applying : (d : Dialect) (file name paths ends : List ℕ) (m m' : Memory) (a : Audience) → a ≡ audience file (entries file) name → (who : List ℕ) → who ≡ whom a name
+pub round_applying : {d : Dialect} {a : Audience} {paths ends who : List ℕ} {m m' : Memory} (file name : List ℕ) → a ≡ audience file (entries file) name → who ≡ whom a name
     → Round d file (left file who (first_pass file)) paths ends m m' → Round d file (readable_for file name) paths ends m m'
-round_applying d file name paths ends m m' a e who w r =
+round_applying {d} {a} {paths} {ends} {who} {m} {m'} file name e w r =
     subst (λ (rs : List Rule). Round d file rs paths ends m m') (ap (λ (x : List ℕ). left file x (first_pass file)) w ∙ rules_applying file name a e) r
 
--- cleared
-pub cleared_stays : (n : ℕ) (m m' : Memory) → Cleared n m.refusals m'.refusals → Cleared n m.sides m'.sides → Cleared n m.lines m'.lines → Stays n m m'
-cleared_stays n m m' r s l = record { refusals = r.stays; sides = s.stays; lines = l.stays }
+-- why the call is refused, where it is known whether the memory is short
+module _ (b : Batch) {s : Bool} (e : s ≡ (short_answers b.ends b.refusals b.sides b.lines).given) where
+  abbrev told : ℕ
+  told = refusal (unknown_dialect b.dialect ∷ too_long b.file ∷ bad_name b.name ∷ bad_ends b.paths b.ends ∷ (13 when s) ∷ [])
 
--- gone through, finished
-module _ (d : Dialect) (file name paths ends : List ℕ) (m₀ m₁ m₂ : Memory) where
-  none_leads : Cleared (length ends) m₀.refusals m₁.refusals → Cleared (length ends) m₀.sides m₁.sides
-      → Cleared (length ends) m₀.lines m₁.lines → (j : ℕ) → j < length ends → leader_in m₁ j ≡ no_leader
-  none_leads r s l j h = rw (r.zero j h, s.zero j h, l.zero j h)
+  pub call_told : told ≡ batch_refusal b
+  unfolding batch_refusal
+  call_told = rw e refl
 
-  pub answers_found : Cleared (length ends) m₀.refusals m₁.refusals → Cleared (length ends) m₀.sides m₁.sides
-      → Cleared (length ends) m₀.lines m₁.lines → Round d file (readable_for file name) paths ends m₁ m₂
-      → (refusals sides : List ℕ) → Finished paths ends m₂.refusals m₂.sides refusals sides
-      → Answered d file name paths ends m₀ (record { refusals = refusals; sides = sides; lines = m₂.lines })
-  answers_found r s l round refusals sides f =
-      let led : (j : ℕ) → j < length ends → leader_in m₂ j ≡ led_over d file (readable_for file name) (path_at paths ends j) no_leader
-      = λ j h.
-      round.led j h
-      ∙ ap (led_over d file (readable_for file name) (path_at paths ends j)) (none_leads r s l j h) in
-      let two : Stays (length ends) m₀ m₂ = stays_trans (length ends) m₀ m₁ m₂ (cleared_stays (length ends) m₀ m₁ r s l) round.stays in
-      record {
-        stays =
-            stays_trans (length ends) m₀ m₂ (record { refusals = refusals; sides = sides; lines = m₂.lines }) two
-            (record { refusals = f.refusals_stay; sides = f.sides_stay; lines = tail_refl (length ends) m₂.lines });
-        refused = f.refused;
-        sided = λ j h. f.sided j h ∙ ap (λ (k : Leader). side_for (refusal (path_rows (path_at paths ends j))) k.side) (led j h);
-        lined = λ j h. ap (λ (k : Leader). k.line.number) (led j h);
-      }
+  -- refused, nothing is written
+  pub kept : (r : Refusal) → refusal_number r ≡ told
+      → (b.refusals ≡ refusals_after b) × (b.sides ≡ sides_after b) × (b.lines ≡ lines_after b)
+  kept r h = let k = batch_refused b (refused_number r (batch_refusal b) (h ∙ call_told)) in (sym k.0, sym k.1, sym k.2)
 
 -- in a call that isn't refused
-module _ (b : Batch) (h : batch_refusal b ≡ 0) where
+module _ (b : Batch) {s : Bool} (e : s ≡ (short_answers b.ends b.refusals b.sides b.lines).given) (z : 0 ≡ told b e) where
+  h : batch_refusal b ≡ 0
+  h = sym (z ∙ call_told b e)
+
   pub good_ends : GoodEnds b.paths b.ends
   good_ends =
       let e = (batch_call b h).3 in (

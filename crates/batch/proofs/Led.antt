@@ -7,7 +7,7 @@ use lib.Dec.{eqb}
 use borrow.Author.Tests.{eqb-true, eqb-false}
 use Rattle.lists.proofs.Bools.{split}
 use Rattle.protocol.specs.declared.Dialect.{Dialect}
-use Rattle.protocol.specs.declared.Decision.{Decision}
+use Rattle.protocol.specs.Forms.{Decision}
 use Rattle.protocol.specs.declared.LineNumber.{LineNumber}
 use Rattle.protocol.specs.Entries.{entries}
 use Rattle.protocol.specs.Rules.{applying, unread}

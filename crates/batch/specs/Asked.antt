@@ -5,8 +5,9 @@ use Rattle.protocol.specs.Refusals.{path_rows, refusal}
 use Rattle.protocol.specs.Batch.{Batch}
 use Rattle.protocol.specs.Meaning.{readable_for}
 use Rattle.listing.specs.Listing.{path_at, side_for}
+use Rattle.listing.specs.Memory.{Memory, Stays}
 use Rattle.leading.specs.Leading.{no_leader}
-use Rattle.rounds.specs.Rounds.{Memory, Stays, led_over}
+use Rattle.rounds.specs.Rounds.{led_over}
 
 -- what is asked, with the memory that is lent
 abbrev pub asked : ℕ → List ℕ → List ℕ → List ℕ → List ℕ → List ℕ → List ℕ → List ℕ → Batch

@@ -1,14 +1,12 @@
 -- What one line makes of the rules that are left. Assumes nothing.
-use Prim.Native.Nat.{ℕ, ◌+◌, ◌*◌, ◌-◌, ◌≤◌, ◌<◌}
+use Prim.Native.Nat.{ℕ, ◌+◌, ◌-◌, ◌≤◌, ◌<◌}
 use mathlib.Core.Path.{◌≡◌, refl, sym, ap, ◌∙◌}
 use mathlib.Core.Bool.{Bool, true, false, ◌&&◌, ◌||◌, true≢false, false≢true}
 use mathlib.Core.List.{List, [], ◌∷◌, ◌++◌, append-nil}
 use mathlib.Core.Option.{none}
 use native.Mathlib.Omega.{arith}
-use types.Run.{OneOf, miss}
-use denote.Enum.Declared.{tag_of}
 use lib.ListN.{length, take, drop}
-use lib.Seq.{sets, length-sets}
+use Rattle.std.proofs.Math.ListN.{set, length-set}
 use Rattle.lists.specs.Lists.{any, up_to}
 use Rattle.lists.proofs.Bools.{split}
 use Rattle.lists.proofs.Scans.{take_up_to}
@@ -19,16 +17,19 @@ use Rattle.protocol.specs.declared.Agent.{Agent}
 use Rattle.protocol.specs.declared.Pattern.{Pattern}
 use Rattle.protocol.specs.declared.Kind.{Kind}
 use Rattle.protocol.specs.declared.Rule.{Rule}
-use Rattle.protocol.specs.declared.LineAnswer.{LineAnswer}
+use Rattle.protocol.specs.Forms.{LineAnswer}
 use Rattle.protocol.specs.Octets.{line_end}
 use Rattle.protocol.specs.Lines.{Line, place_after}
 use Rattle.protocol.specs.Readable.{names}
 use Rattle.protocol.specs.Kinds.{kind_of}
 use Rattle.protocol.specs.Entries.{rule, role_of, group_at, ruled_after, entry_of, entries_from}
 use Rattle.protocol.specs.Decision.{pattern_of}
+use Rattle.std.specs.Prelude.{Result, Ok, Err}
+use Rattle.std.specs.Result.{result_unwrap_or}
+use Rattle.protocol.specs.declared.Refusal.{Refusal}
 use Rattle.protocol.specs.Answers.{line_answer}
+use Rattle.protocol.specs.Outcomes.{line_answer_of}
 use Rattle.protocol.proofs.KindAnswer.{line_answered}
-use Rattle.protocol.specs.contracts.Kind as K
 use Rattle.lines.specs.Spans.{text_at, next_at}
 use Rattle.lines.specs.Skips.{PassedOver}
 use Rattle.lines.proofs.Forward.{next_further, next_inside, text_inside}
@@ -41,8 +42,9 @@ use Rattle.passes.specs.Steps.{lines_on, lines_past}
 use Rattle.passes.proofs.Turns.{line_behind, here, entries_here, blocks_entries}
 use Rattle.passes.proofs.Lines.{heard_here}
 use Rattle.passes.proofs.Unheard.{Alike, heard_alike, heard_numbers}
-use Rattle.tables.specs.Tables.{numbers_of, rules_from}
-use Rattle.tables.proofs.Kept.{kept_more, kept_sound}
+use Rattle.tables.specs.declared.Kept.{Kept}
+use Rattle.tables.specs.Tables.{kept_of, rules_from}
+use Rattle.tables.proofs.Tables.{kept_more, kept_sound}
 use Rattle.collecting.specs.declared.Pass.{Pass}
 use Rattle.collecting.specs.declared.Collected.{Collected}
 use Rattle.collecting.specs.Left.{heard_in, left, Counted, Behind, IdlePassed, is_rule, Next, Turn}
@@ -135,21 +137,21 @@ blocks_behind file p r c over =
     }
 
 -- past a `let .. else` that asks for an agent line: no rule line either
-pub idle_role : (k : Kind) → OneOf (0 ∷ 1 ∷ 2 ∷ 4 ∷ []) (tag_of K.the_type k) → is_rule k ≡ false → role_of k ≡ none
+pub idle_role : (k : Kind) → ((a : Agent) → k ≡ Kind.Agent a → ⊥) → is_rule k ≡ false → role_of k ≡ none
 unfolding role_of
 idle_role Kind.Blank o e = refl
 idle_role Kind.Noise o e = refl
 idle_role Kind.Other o e = refl
-idle_role (Kind.Agent a) o e = absurd (miss (0 ∷ 1 ∷ 2 ∷ 4 ∷ []) 3 tt o)
+idle_role (Kind.Agent a) o e = absurd (o a refl)
 idle_role (Kind.Rule side q) o e = absurd (true≢false e)
 
 -- past one that asks for a rule line
-pub no_rule : (k : Kind) → OneOf (0 ∷ 1 ∷ 2 ∷ 3 ∷ []) (tag_of K.the_type k) → is_rule k ≡ false
+pub no_rule : (k : Kind) → ((side : Side) (q : Pattern) → k ≡ Kind.Rule side q → ⊥) → is_rule k ≡ false
 no_rule Kind.Blank o = refl
 no_rule Kind.Noise o = refl
 no_rule Kind.Other o = refl
 no_rule (Kind.Agent a) o = refl
-no_rule (Kind.Rule side q) o = absurd (miss (0 ∷ 1 ∷ 2 ∷ 3 ∷ []) 4 tt o)
+no_rule (Kind.Rule side q) o = absurd (o side q refl)
 
 -- an agent line's kind is told for a pass as it is
 pub agent_told : (k : Kind) (a : Agent) → k ≡ Kind.Agent a → k ≡ entry_kind k
@@ -177,22 +179,22 @@ module _ (file : List ℕ) (p e : Place) (h : p.offset ≤ length file) (known :
   text_unended = no_ending (drop p.offset file)
 
 -- a line's answer is its kind
-pub kind_answered : (l : List ℕ) → length l ≤ 512_000 → any line_end l ≡ false → line_answer l ≡ LineAnswer.Kind (kind_of l)
+kind_answered : (l : List ℕ) → length l ≤ 512_000 → any line_end l ≡ false → line_answer l ≡ LineAnswer.Kind (kind_of l)
 kind_answered l h e = line_answered l (one_line l h e)
 
-pub never_refused : (k : Kind) (n : ℕ) → LineAnswer.Refused n ≡ LineAnswer.Kind k → ⊥
-never_refused k n e = false≢true (ap answers e)
-  where
-    answers : LineAnswer → Bool
-    answers (LineAnswer.Refused m) = false
-    answers (LineAnswer.Kind j) = true
-
-pub kind_same : (j k : Kind) → LineAnswer.Kind j ≡ LineAnswer.Kind k → j ≡ k
-kind_same j k e = ap (told j) e
+-- so no line of a file is refused
+pub kind_told : (r : Result Kind Refusal) (l : List ℕ) → length l ≤ 512_000 → any line_end l ≡ false → line_answer_of r ≡ line_answer l
+    → result_unwrap_or r Kind.Other ≡ kind_of l
+kind_told (Ok k) l h e t = ap (told k) (t ∙ kind_answered l h e)
   where
     told : Kind → LineAnswer → Kind
     told i (LineAnswer.Refused m) = i
     told i (LineAnswer.Kind x) = x
+kind_told (Err r) l h e t = absurd (false≢true (ap answers (t ∙ kind_answered l h e)))
+  where
+    answers : LineAnswer → Bool
+    answers (LineAnswer.Refused m) = false
+    answers (LineAnswer.Kind j) = true
 
 -- behind a line without an entry
 pub idle_next : (file who : List ℕ) (p : Pass) → Counted file p.at → role_of (kind_of (text_at file p.at.place)) ≡ none → (r : Position)
@@ -228,7 +230,7 @@ module _ (file : List ℕ) (c : Collected) (ok : Counted file c.pass.at) (side :
       })
 
   -- none is kept
-  pub turn_none : (table : List ℕ) → heard_here file c.pass.at side pattern e inner c.pass.applies ≡ []
+  pub turn_none : (table : List Kept) → heard_here file c.pass.at side pattern e inner c.pass.applies ≡ []
       → (who : List ℕ) → Turn file who table c table (record { count = c.count; pass = behind })
   turn_none table h who =
       record {
@@ -241,9 +243,9 @@ module _ (file : List ℕ) (c : Collected) (ok : Counted file c.pass.at) (side :
       }
 
   -- one is
-  pub turn_one : (table : List ℕ) (r : Rule) (v : List ℕ) → 5 * c.count + 5 ≤ length table → r.place.offset + r.length ≤ length file → v ≡ pattern_of file r
+  pub turn_one : (table : List Kept) (r : Rule) (v : List ℕ) → c.count < length table → r.place.offset + r.length ≤ length file → v ≡ pattern_of file r
       → heard_here file c.pass.at side pattern e inner c.pass.applies ≡ r ∷ []
-      → (after : List ℕ) → after ≡ sets table (5 * c.count) (numbers_of r v)
+      → (after : List Kept) → after ≡ set table c.count (kept_of r v)
       → (who : List ℕ) → Turn file who table c after (record { count = c.count + 1; pass = behind })
   turn_one table r v room inside known h after a who =
       rw a
@@ -252,12 +254,12 @@ module _ (file : List ℕ) (c : Collected) (ok : Counted file c.pass.at) (side :
         next = rule_next (r ∷ []) h who;
         kept = kept_more table c.count r v room;
         sound = kept_sound table c.count r v room file inside known;
-        same = length-sets table (5 * c.count) (numbers_of r v);
+        same = length-set table c.count (kept_of r v);
         few = omega arith;
       })
 
 -- behind any other line nothing is kept
-pub turn_other : (file who table : List ℕ) (c : Collected) (q : Pass) → Next file who c.pass [] q → Turn file who table c table (record { count = c.count; pass = q })
+pub turn_other : (file who : List ℕ) (table : List Kept) (c : Collected) (q : Pass) → Next file who c.pass [] q → Turn file who table c table (record { count = c.count; pass = q })
 turn_other file who table c q n =
     record {
       rules = [];

@@ -1,6 +1,6 @@
 -- Line after line, until the table is full or the file is read: what is in the table and what is left are all rules from the first line on; and those
 -- of a whole file are document 01's. Assumes nothing.
-use Prim.Native.Nat.{ℕ, ◌+◌, ◌/◌, ◌≤◌, ◌<◌}
+use Prim.Native.Nat.{ℕ, ◌+◌, ◌≤◌, ◌<◌}
 use mathlib.Core.Path.{◌≡◌, refl, sym, ap, ◌∙◌}
 use mathlib.Core.Bool.{false}
 use mathlib.Core.List.{List, [], ◌++◌, append_assoc}
@@ -16,13 +16,15 @@ use Rattle.protocol.proofs.FrontToBack.{lines_all, lines_end}
 use Rattle.hearing.specs.Heard.{whom, nothing_heard}
 use Rattle.passes.specs.Entries.{rules_heard}
 use Rattle.passes.proofs.Gathering.{audience_heard}
-use Rattle.tables.specs.Tables.{rules_from, Sound}
+use Rattle.std.proofs.lemmas.List.Elements.{All-nil}
+use Rattle.tables.specs.declared.Kept.{Kept}
+use Rattle.tables.specs.Tables.{rules_from, SoundKept, Sound}
 use Rattle.collecting.specs.declared.Pass.{Pass}
 use Rattle.collecting.specs.declared.Collected.{Collected}
 use Rattle.collecting.specs.Left.{first_pass, left, Turn, Rounded}
 
 -- what holds where the loop, which began at p with a table of that length, has come to c
-pub record Reached (file who : List ℕ) (p : Pass) (before table : List ℕ) (c : Collected) : Type 0 where
+pub record Reached (file who : List ℕ) (p : Pass) (before table : List Kept) (c : Collected) : Type 0 where
   pub rules : rules_from 0 c.count table ++ left file who c.pass ≡ left file who p
   pub sound : Sound file c.count table
   pub same : length table ≡ length before
@@ -30,13 +32,12 @@ pub record Reached (file who : List ℕ) (p : Pass) (before table : List ℕ) (c
   pub on : p.at.place.offset ≤ c.pass.at.place.offset
   pub further : 0 < c.count → p.at.place.offset < c.pass.at.place.offset
 
-pub reached_first : (file who : List ℕ) (p : Pass) (table : List ℕ) → p.at.number.number ≤ p.at.place.offset + 1
+pub reached_first : (file who : List ℕ) (p : Pass) (table : List Kept) → p.at.number.number ≤ p.at.place.offset + 1
     → Reached file who p table table (record { count = 0; pass = p })
-unfolding rules_from
 reached_first file who p table few =
     record {
       rules = refl;
-      sound = (omega arith, λ i h. absurd (omega (arith, h)));
+      sound = (omega arith, All-nil (SoundKept file));
       same = refl;
       counted = few;
       on = omega arith;
@@ -44,8 +45,8 @@ reached_first file who p table few =
     }
 
 -- one line more
-pub reached_on : (file who : List ℕ) (p : Pass) (before table : List ℕ) (c : Collected) → Reached file who p before table c
-    → (after : List ℕ) (d : Collected) → Turn file who table c after d → Reached file who p before after d
+pub reached_on : (file who : List ℕ) (p : Pass) (before table : List Kept) (c : Collected) → Reached file who p before table c
+    → (after : List Kept) (d : Collected) → Turn file who table c after d → Reached file who p before after d
 reached_on file who p before table c now after d t =
     record {
       rules =
@@ -61,7 +62,7 @@ reached_on file who p before table c now after d t =
     }
 
 -- where the table is full, or the file is read
-pub reached_full : (file who : List ℕ) (p : Pass) (before table : List ℕ) (c : Collected) → Reached file who p before table c → c.count ≡ length before / 5
+pub reached_full : (file who : List ℕ) (p : Pass) (before table : List Kept) (c : Collected) → Reached file who p before table c → c.count ≡ length before
     → Rounded file who p before table c
 reached_full file who p before table c now full =
     record {
@@ -73,7 +74,7 @@ reached_full file who p before table c now full =
       further = λ some h. now.further (omega (arith, some, full));
     }
 
-pub reached_end : (file who : List ℕ) (p : Pass) (before table : List ℕ) (c : Collected) → Reached file who p before table c
+pub reached_end : (file who : List ℕ) (p : Pass) (before table : List Kept) (c : Collected) → Reached file who p before table c
     → length file ≤ c.pass.at.place.offset → Rounded file who p before table c
 reached_end file who p before table c now end =
     record {

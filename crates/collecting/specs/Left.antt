@@ -1,5 +1,5 @@
 -- The rules that are left from a line on, and what reading lines makes of them. Assumes nothing.
-use Rattle.std.specs.Prelude.{ℕ, ◌+◌, ◌/◌, ◌≤◌, ◌<◌, ◌≡◌, Bool, true, false, List, ◌++◌, length}
+use Rattle.std.specs.Prelude.{ℕ, ◌+◌, ◌≤◌, ◌<◌, ◌≡◌, Bool, true, false, List, ◌++◌, length}
 use Rattle.protocol.specs.declared.Position.{Position}
 use Rattle.protocol.specs.declared.Kind.{Kind}
 use Rattle.protocol.specs.declared.Rule.{Rule}
@@ -9,6 +9,7 @@ use Rattle.passes.specs.Entries.{rules_heard}
 use Rattle.passes.specs.Steps.{first_line, lines_on, lines_past}
 use Rattle.collecting.specs.declared.Pass.{Pass}
 use Rattle.collecting.specs.declared.Collected.{Collected}
+use Rattle.tables.specs.declared.Kept.{Kept}
 use Rattle.tables.specs.Tables.{rules_from, Sound}
 
 -- before the first line no group is above
@@ -53,7 +54,7 @@ pub record Next (file who : List ℕ) (p : Pass) (rs : List Rule) (q : Pass) : T
   pub left : left file who p ≡ rs ++ left file who q
 
 -- one line more: its rule, if it has one that applies, stands in the table behind those that were there
-pub record Turn (file who before : List ℕ) (c : Collected) (after : List ℕ) (d : Collected) : Type 0 where
+pub record Turn (file who : List ℕ) (before : List Kept) (c : Collected) (after : List Kept) (d : Collected) : Type 0 where
   pub rules : List Rule
   pub next : Next file who c.pass rules d.pass
   pub kept : rules_from 0 d.count after ≡ rules_from 0 c.count before ++ rules
@@ -62,10 +63,10 @@ pub record Turn (file who before : List ℕ) (c : Collected) (after : List ℕ) 
   pub few : d.count ≤ c.count + 1
 
 -- as many rules as there is room for: those from p on stand in the table, and those that don't are left
-pub record Rounded (file who : List ℕ) (p : Pass) (before after : List ℕ) (d : Collected) : Type 0 where
+pub record Rounded (file who : List ℕ) (p : Pass) (before after : List Kept) (d : Collected) : Type 0 where
   pub rules : rules_from 0 d.count after ++ left file who d.pass ≡ left file who p
-  pub full : d.pass.at.place.offset < length file → d.count ≡ length before / 5
+  pub full : d.pass.at.place.offset < length file → d.count ≡ length before
   pub sound : Sound file d.count after
   pub same : length after ≡ length before
   pub counted : d.pass.at.number.number ≤ d.pass.at.place.offset + 1
-  pub further : 5 ≤ length before → p.at.place.offset < length file → p.at.place.offset < d.pass.at.place.offset
+  pub further : 1 ≤ length before → p.at.place.offset < length file → p.at.place.offset < d.pass.at.place.offset

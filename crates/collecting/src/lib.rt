@@ -1,18 +1,19 @@
-// The readable rules of the groups that apply, kept as numbers in a lent table: five to a rule.
+// The readable rules of the groups that apply, kept in a lent table.
 
 #![tactic(auto)]
 
-ghost use Rattle.std.specs.Prelude.{◌≡◌, false, ◌&&◌, ◌||◌, List, [], ℕ, ◌+◌, ◌*◌, ◌≤◌, length};
+ghost use Rattle.std.specs.Prelude.{◌≡◌, false, ◌&&◌, ◌||◌, List, [], ℕ, ◌+◌, ◌≤◌, ◌<◌, length};
 ghost use Rattle.lists.specs.Lists.{any};
 ghost use Rattle.protocol.specs.Octets.{line_end};
 ghost use Rattle.protocol.specs.Readable.{names};
 ghost use Rattle.protocol.specs.declared.Kind.{Kind};
 ghost use Rattle.protocol.specs.Kinds.{kind_of};
-ghost use Rattle.protocol.specs.Classes.{class_table};
 ghost use Rattle.lines.specs.Spans.{text_at, next_at};
 ghost use Rattle.collecting.specs.Left.{first_pass, Counted, IdlePassed, is_rule, Next, Turn, Rounded};
 
-use protocol::{ClassTable, Kind, LineAnswer, Pattern, Place, Position, Rule, Side};
+use octets::Classes;
+use protocol::{Kind, Pattern, Place, Position, Side};
+use tables::Kept;
 
 // How far the lines are read: the next line, whether the rules of the group above it apply, and whether an agent line there would join that group.
 #[derive(Clone, Copy)]
@@ -33,175 +34,150 @@ pub struct Collected {
 pub fn first_pass(file: &[u8]) -> Pass
     ensures { result ≡ first_pass file.now }
 {
-    let at = passes::line::first_line(file);
     Pass {
-        at,
+        at: passes::line::first_line(file),
         applies: false,
         joins: false,
     }
 }
 
-// The kind of a line.
-fn line_kind(classes: &ClassTable, line: &[u8]) -> Kind
-    requires { (classes.now ≡ class_table) × (length line.now ≤ 512000) × (any line_end line.now ≡ false) }
+// The kind of a line, which is never refused.
+#[tactic(auto, using(crate::proofs::Reading::kind_told))]
+fn line_kind(classes: &Classes, line: &[u8]) -> Kind
+    requires short { length line.now ≤ 512000 }
+    requires one_line { any line_end line.now ≡ false }
     ensures { result ≡ kind_of line.now }
 {
-    let answer = kinds::answers::line_answer(classes, line);
-    match answer {
-        LineAnswer::Refused(_) => Kind::Other,
-        LineAnswer::Kind(kind) => kind,
-    }
-}
-
-// An agent line would join a group whose rules apply.
-fn joins_applying(pass: Pass) -> bool
-    ensures { result ≡ (pass.joins && pass.applies) }
-{
-    if pass.joins { pass.applies } else { false }
+    kinds::answers::line_answer(classes, line).unwrap_or(Kind::Other)
 }
 
 // The group that an agent line with that value starts or joins applies: it is theirs who have the name `who`.
-fn group_applies(classes: &ClassTable, pass: Pass, who: &[u8], value: &[u8]) -> bool
-    requires { classes.now ≡ class_table }
+fn group_applies(classes: &Classes, pass: Pass, who: &[u8], value: &[u8]) -> bool
     ensures { result ≡ ((pass.joins && pass.applies) || names value.now who.now) }
 {
-    if joins_applying(pass) {
-        return true;
-    }
-    readable::names(classes, value, who)
+    pass.joins && pass.applies || readable::names(classes, value, who)
 }
 
-// Past a line that is no agent or rule line, and past whole blocks behind it in which none begins.
-fn pass_idle(classes: &ClassTable, file: &[u8], at: Position) -> Position
-    requires { (classes.now ≡ class_table) × Counted file.now at }
-    ensures { IdlePassed file.now at result }
-{
-    let over = lines::skip::pass(file, at);
-    let end = text::line_end(classes, file, over.place);
-    passes::line::next_line(over, lines::span::behind_end(file, end))
+// A file that is read for the rules of the groups that `who` names.
+#[derive(Clone, Copy)]
+struct Reader<'a> {
+    classes: &'a Classes,
+    file: &'a [u8],
+    who: &'a [u8],
 }
 
-// Behind a line that is no rule line, and in front of the one at `next`: an agent line may change whether rules apply, and any other changes nothing.
-fn hear_other(
-    classes: &ClassTable,
-    file: &[u8],
-    who: &[u8],
-    pass: Pass,
-    kind: Kind,
-    next: Place,
-) -> Pass
-    requires { (classes.now ≡ class_table) × Counted file.now pass.at × (kind ≡ kind_of (text_at file.now pass.at.place)) × (is_rule kind ≡ false) × (next ≡ next_at file.now pass.at.place) }
-    ensures { Next file.now who.now pass [] result }
-{
-    let at = pass.at;
-    let Kind::Agent(_) = kind else {
-        return Pass {
-            at: pass_idle(classes, file, at),
-            applies: pass.applies,
-            joins: pass.joins,
-        };
-    };
-    let value = passes::line::value_of(file, at.place, kind);
-    let applies = group_applies(classes, pass, who, value);
-    Pass {
-        at: passes::line::next_line(at, next),
-        applies,
-        joins: true,
+impl Reader<'_> {
+    // Past a line that is no agent or rule line, and past whole blocks behind it in which none begins.
+    fn pass_idle(self, at: Position) -> Position
+        requires { Counted self.file.now at }
+        ensures { IdlePassed self.entry.file.now at result }
+    {
+        let over = lines::skip::pass(self.file, at);
+        let end = text::line_end(self.classes, self.file, over.place);
+        passes::line::next_line(over, lines::span::behind_end(self.file, end))
     }
-}
 
-// Behind a rule line, and in front of the one at `next`: a readable rule that applies is kept.
-fn take_rule(
-    file: &[u8],
-    c: Collected,
-    side: Side,
-    pattern: Pattern,
-    next: Place,
-    table: &mut [usize],
-) -> Collected
-    requires { Counted file.now c.pass.at × (Kind.Rule side pattern ≡ kind_of (text_at file.now c.pass.at.place)) × (next ≡ next_at file.now c.pass.at.place) × (5 * c.count + 5 ≤ length table.old) }
-    ensures { (who : List ℕ) → Turn file.now who table.old c table.new result }
-{
-    let pass = c.pass;
-    let at = pass.at;
-    let behind = Pass {
-        at: passes::line::next_line(at, next),
-        applies: pass.applies,
-        joins: false,
-    };
-    let Pattern::Readable(place, length) = pattern else {
-        return Collected {
-            count: c.count,
-            pass: behind,
+    // Behind a line that is no rule line, and in front of the one at `next`: an agent line may change whether rules apply, and any other changes
+    // nothing.
+    fn hear_other(self, pass: Pass, kind: Kind, next: Place) -> Pass
+        requires counted { Counted self.file.now pass.at }
+        requires told { kind ≡ kind_of (text_at self.file.now pass.at.place) }
+        requires idle { is_rule kind ≡ false }
+        requires behind { next ≡ next_at self.file.now pass.at.place }
+        ensures { Next self.entry.file.now self.entry.who.now pass [] result }
+    {
+        let Kind::Agent(_) = kind else {
+            return Pass {
+                at: self.pass_idle(pass.at),
+                ..pass
+            };
         };
-    };
-    if !pass.applies {
-        return Collected {
-            count: c.count,
-            pass: behind,
-        };
+        let value = passes::line::value_of(self.file, pass.at.place, kind);
+        let applies = group_applies(self.classes, pass, self.who, value);
+        Pass {
+            at: passes::line::next_line(pass.at, next),
+            applies,
+            joins: true,
+        }
     }
-    let start = at.place.offset + place.offset;
-    let end = start + length;
-    let line = at.number;
-    let rule = Rule {
-        line,
-        side,
-        place: Place { offset: start },
-        length,
-    };
-    tables::keep(rule, &file[start..end], c.count, table);
-    Collected {
-        count: c.count + 1,
-        pass: behind,
-    }
-}
 
-// One line more.
-fn read_line(
-    classes: &ClassTable,
-    file: &[u8],
-    who: &[u8],
-    c: Collected,
-    table: &mut [usize],
-) -> Collected
-    requires { (classes.now ≡ class_table) × Counted file.now c.pass.at × (5 * c.count + 5 ≤ length table.old) }
-    ensures { Turn file.now who.now table.old c table.new result }
-{
-    let pass = c.pass;
-    let place = pass.at.place;
-    let last = text::line_end(classes, file, place);
-    let start = place.offset;
-    let end = last.offset;
-    let kind = line_kind(classes, &file[start..end]);
-    let next = lines::span::behind_end(file, last);
-    let Kind::Rule(side, pattern) = kind else {
-        return Collected {
-            count: c.count,
-            pass: hear_other(classes, file, who, pass, kind, next),
+    // Behind a rule line, and in front of the one at `next`: a readable rule that applies is kept.
+    fn take_rule(
+        self,
+        c: Collected,
+        side: Side,
+        pattern: Pattern,
+        next: Place,
+        table: &mut [Kept],
+    ) -> Collected
+        requires counted { Counted self.file.now c.pass.at }
+        requires told { Kind.Rule side pattern ≡ kind_of (text_at self.file.now c.pass.at.place) }
+        requires behind { next ≡ next_at self.file.now c.pass.at.place }
+        requires room { c.count < length table.old }
+        ensures { (who : List ℕ) → Turn self.entry.file.now who table.old c table.new result }
+    {
+        let at = c.pass.at;
+        let pass = Pass {
+            at: passes::line::next_line(at, next),
+            joins: false,
+            ..c.pass
         };
-    };
-    take_rule(file, c, side, pattern, next, table)
+        let Pattern::Readable(place, length) = pattern else {
+            return Collected { pass, ..c };
+        };
+        if !pass.applies {
+            return Collected { pass, ..c };
+        }
+        let rule = passes::line::rule_of(at, side, place, length);
+        table[c.count] = Kept::new(rule, considering::pattern_of(self.file, rule));
+        Collected {
+            count: c.count + 1,
+            pass,
+        }
+    }
+
+    // One line more.
+    fn read_line(self, c: Collected, table: &mut [Kept]) -> Collected
+        requires counted { Counted self.file.now c.pass.at }
+        requires room { c.count < length table.old }
+        ensures { Turn self.entry.file.now self.entry.who.now table.old c table.new result }
+    {
+        let pass = c.pass;
+        let last = text::line_end(self.classes, self.file, pass.at.place);
+        let start = pass.at.place.offset;
+        let end = last.offset;
+        let kind = line_kind(self.classes, &self.file[start..end]);
+        let next = lines::span::behind_end(self.file, last);
+        if let Kind::Rule(side, pattern) = kind {
+            self.take_rule(c, side, pattern, next, table)
+        } else {
+            Collected {
+                pass: self.hear_other(pass, kind, next),
+                ..c
+            }
+        }
+    }
 }
 
 // The rules from a line on whose groups `who` names, in file order, as many as the table has room for.
 pub fn collect(
-    classes: &ClassTable,
+    classes: &Classes,
     file: &[u8],
     who: &[u8],
     pass: Pass,
-    table: &mut [usize],
+    table: &mut [Kept],
 ) -> Collected
-    requires { (classes.now ≡ class_table) × (length file.now ≤ 512000) × (pass.at.number.number ≤ pass.at.place.offset + 1) }
+    requires { (length file.now ≤ 512000) × (pass.at.number.number ≤ pass.at.place.offset + 1) }
     ensures { Rounded file.now who.now pass table.old table.new result }
 {
-    let room = table.len() / 5;
+    let reader = Reader { classes, file, who };
     let mut c = Collected { count: 0, pass };
+    // No `for`: a turn ends where the next line begins that may be an agent or rule line.
     while c.pass.at.place.offset < file.len() {
-        if c.count == room {
-            return c;
+        if c.count == table.len() {
+            break;
         }
-        c = read_line(classes, file, who, c, table);
+        c = reader.read_line(c, table);
     }
     c
 }

@@ -3,7 +3,7 @@ use Rattle.std.specs.Prelude.{ℕ, ◌+◌, ◌*◌, ◌≤◌, ◌<◌, ◌^◌
 use Rattle.protocol.specs.declared.Side.{Side}
 use Rattle.protocol.specs.declared.Dialect.{Dialect}
 use Rattle.protocol.specs.declared.Rule.{Rule}
-use Rattle.protocol.specs.declared.Decision.{Decision}
+use Rattle.protocol.specs.Forms.{Decision}
 use Rattle.protocol.specs.Lines.{line_number, place_at}
 use Rattle.protocol.specs.Decision.{pattern_of}
 use Rattle.walk.specs.Weights.{weighed}
@@ -35,9 +35,12 @@ abbrev pub matched : Considered → Bool
 matched c = ltb 0 c.allow.weight || ltb 0 c.disallow.weight
 
 -- nothing more is made of further rules: in the draft's dialect, of those behind the first match
+abbrev pub first_settles : Dialect → Bool → Bool
+first_settles Dialect.Rfc9309 some = false
+first_settles Dialect.Draft1996 some = some
+
 abbrev pub settled : Dialect → Considered → Bool
-settled Dialect.Rfc9309 c = false
-settled Dialect.Draft1996 c = matched c
+settled d c = first_settles d (matched c)
 
 -- one rule more, by the walk of its pattern over the path
 unfoldable pub walked_once : Dialect → List ℕ → List ℕ → Rule → Considered → Considered

@@ -3,7 +3,7 @@ use Prim.Native.Nat.{ℕ, ◌≤◌}
 use mathlib.Core.Path.{◌≡◌}
 use mathlib.Core.List.{List}
 use lib.ListN.{length}
-use Rattle.protocol.specs.declared.Decision.{Decision}
+use Rattle.protocol.specs.Forms.{Decision}
 use Rattle.protocol.specs.Refusals.{unless_refused}
 use Rattle.protocol.specs.Answers.{decide}
 use Rattle.protocol.specs.Program.{refused_text, answer_text, first_part, behind, output}

@@ -9,7 +9,8 @@ use lib.ListN.{length}
 use borrow.Author.Tests.{ltb-true, ltb-false}
 use Rattle.lists.proofs.Bools.{split}
 use Rattle.protocol.specs.Normal.{normal_path}
-use Rattle.protocol.specs.Refusals.{bad_name, path_rows, question_rows, refusal, decide_refusal}
+use Rattle.protocol.specs.declared.Dialect.{Dialect}
+use Rattle.protocol.specs.Refusals.{dialect_number, bad_name, path_rows, question_rows, refusal, decide_refusal}
 use Rattle.protocol.proofs.Refused.{unknown_refused, known_dialect}
 use Rattle.protocol.proofs.Limits.{not_too_long, short_known, path_known, path_room}
 
@@ -21,6 +22,10 @@ module _ (file name path : List ℕ) where
   pub known_rows : (n : ℕ) → n ≤ 1 → decide_refusal n file name path ≡ refusal (question_rows file name path)
   unfolding decide_refusal
   known_rows n h = known_dialect n (question_rows file name path) h
+
+  pub chosen_rows : (n : ℕ) (d : Dialect) → dialect_number d ≡ n → decide_refusal n file name path ≡ refusal (question_rows file name path)
+  chosen_rows n Dialect.Rfc9309 e = known_rows n (omega (arith, e))
+  chosen_rows n Dialect.Draft1996 e = known_rows n (omega (arith, e))
 
   -- where nothing is refused, the dialect is known, and document 01's rows refuse nothing
   pub none_given : (n : ℕ) → decide_refusal n file name path ≡ 0 → refusal (question_rows file name path) ≡ 0

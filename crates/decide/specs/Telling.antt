@@ -1,6 +1,6 @@
 -- A decision as it is told where its unread count may not be asked for. Assumes nothing.
 use Rattle.std.specs.Prelude.{Bool, if◌then◌else◌}
-use Rattle.protocol.specs.declared.Decision.{Decision}
+use Rattle.protocol.specs.Forms.{Decision}
 
 -- with its unread count where the whole file is read, and else with 0 in its place
 abbrev pub told : Bool → Decision → Decision

@@ -1,110 +1,78 @@
 -- Which form a replacement takes: kept, encoded or an escape. Assumes nothing.
-use Prim.Native.Nat.{ℕ, ◌+◌, ◌<◌}
+use Rattle.std.specs.Prelude.{if◌then◌else◌}
+use Prim.Native.Nat.{ℕ}
 use Prim.Native.Char.{code}
-use mathlib.Core.Path.{◌≡◌, refl, sym, ap, ◌∙◌}
-use mathlib.Core.Bool.{Bool, true, false, ◌&&◌, true≢false}
+use mathlib.Core.Path.{◌≡◌, refl, sym, ◌∙◌}
+use mathlib.Core.Bool.{Bool, true, false, true≢false}
 use mathlib.Core.List.{List, [], ◌∷◌}
 use native.Mathlib.Omega.{arith}
-use lib.Dec.{ltb}
-use lib.ListN.{length, drop, get_or, length-drop}
-use borrow.Author.Tests.{ltb-true, ltb-false, not-true, not-false}
+use lib.Dec.{leb}
+use lib.ListN.{length, drop, get_or}
+use borrow.Author.Tests.{not-true, not-false, le-leb}
+use Rattle.std.proofs.Common.{Some, None}
 use Rattle.lists.proofs.Bools.{split}
-use Rattle.lists.proofs.Scans.{drop_one}
-use Rattle.protocol.specs.Octets.{is, unreserved, hex}
+use Rattle.protocol.specs.Octets.{unreserved, hex}
 use Rattle.protocol.specs.Normal.{encoded, meant, escape, is_escape, escape_at, is_encoded, plain, replacement}
 use Rattle.protocol.proofs.Sizes.{no_percent}
 use Rattle.protocol.proofs.Plain.{escape_hex}
-use Rattle.escapes.specs.declared.Replacement.{Replacement}
-use Rattle.escapes.specs.declared.Measure.{Measure}
-use Rattle.escapes.specs.Escapes.{kept, octets_of, Encoded, Escaped, ChangedAt, ReplacementAt, MeasureAt}
+use Rattle.escapes.specs.Escapes.{kept, meant_by}
 use Rattle.escapes.proofs.Sorts.{escape_encoded}
-
--- two octets have to follow the "%" of an escape
-pub no_digits : (x : ℕ) (l : List ℕ) → length l < 2 → is_escape x l ≡ false
-unfolding is_escape
-no_digits x [] h = refl
-no_digits x (d ∷ []) h = refl
-no_digits x (d ∷ e ∷ l) h = absurd (omega arith)
 
 percent_not_kept : (stars : Bool) (x : ℕ) → x ≡ code "%" → kept stars x ≡ false
 percent_not_kept stars x h = rw h
 
--- the replacement that is one octet
-abbrev pub alone : ℕ → Replacement
-alone x = record { first = x; second = 0; third = 0; single = true; taken = 1 }
+-- an octet that stays begins no escape
+pub kept_alone : (stars : Bool) (x : ℕ) (l : List ℕ) → kept stars x ≡ true → is_escape x l ≡ false
+kept_alone stars x l h = no_percent x l (λ e. true≢false (sym h ∙ percent_not_kept stars x e))
 
-module _ (stars : Bool) (x : ℕ) (l : List ℕ) where
-  pub replacement_kept : kept stars x ≡ true → ReplacementAt stars x l (alone x)
-  unfolding replacement plain
-  replacement_kept h =
-      rw (no_percent x l (λ e. true≢false (sym h ∙ percent_not_kept stars x e)), not-true (is_encoded stars x) h)
-      (record { octets = refl; taken = refl })
+pub replacement_kept : (stars : Bool) (x : ℕ) (l : List ℕ) → kept stars x ≡ true → replacement stars x l ≡ x ∷ []
+unfolding replacement plain
+replacement_kept stars x l h = rw (kept_alone stars x l h, not-true (is_encoded stars x) h)
 
-  pub replacement_changed : (p : Replacement) → kept stars x ≡ false → ChangedAt x l p → ReplacementAt stars x l p
-  unfolding replacement plain
-  replacement_changed p h s = rw (not-false (is_encoded stars x) h) s
+-- the octet meant, where the octets are told apart
+three : (c d e : ℕ) (l : List ℕ) → meant_by (c ∷ d ∷ e ∷ l) ≡ (if is_escape c (d ∷ e ∷ l) then Some (meant d e) else None)
+unfolding is_escape
+three c d e l = let h : leb 3 (length (c ∷ d ∷ e ∷ l)) ≡ true = le-leb 3 (length (c ∷ d ∷ e ∷ l)) (omega arith) in rw h
 
--- the octet at the place `at`, where two octets are behind it
-module _ (s : List ℕ) (at : ℕ) (h : at + 2 < length s) where
-  two_behind : drop (at + 1) s ≡ get_or s (at + 1) 0 ∷ get_or s (at + 2) 0 ∷ drop (at + 3) s
-  two_behind =
-      let one : at + 1 + 1 ≡ at + 2 = omega arith in
-      let two : at + 2 + 1 ≡ at + 3 = omega arith in
-      drop_one s (at + 1) 0 (omega arith) ∙ rw (one, drop_one s (at + 2) 0 h, two)
+-- an escape begins the text where an octet is meant
+pub means_escape : (s : List ℕ) (y : ℕ) → meant_by s ≡ Some y → is_escape (get_or s 0 0) (drop 1 s) ≡ true
+means_escape [] y h = cc
+means_escape (c ∷ []) y h = cc
+means_escape (c ∷ d ∷ []) y h = cc
+means_escape (c ∷ d ∷ e ∷ l) y h = split (is_escape c (d ∷ e ∷ l)) (λ k. k) (λ k. cc (rw k at (three c d e l)))
 
-  pub escape_test : (x : ℕ) → is_escape x (drop (at + 1) s) ≡ (is "%" x && hex (get_or s (at + 1) 0) && hex (get_or s (at + 2) 0))
-  unfolding is_escape
-  escape_test x = rw two_behind
+-- and none where none is
+pub means_none : (s : List ℕ) → meant_by s ≡ None → is_escape (get_or s 0 0) (drop 1 s) ≡ false
+unfolding is_escape
+means_none [] h = refl
+means_none (c ∷ []) h = refl
+means_none (c ∷ d ∷ []) h = refl
+means_none (c ∷ d ∷ e ∷ l) h = split (is_escape c (d ∷ e ∷ l)) (λ k. cc (rw k at (three c d e l))) (λ k. k)
 
-  escape_read : escape_at (drop (at + 1) s) ≡ escape (get_or s (at + 1) 0) (get_or s (at + 2) 0)
-  unfolding escape_at
-  escape_read = rw two_behind
+-- an escape is the octet meant, encoded where it isn't unreserved
+escape_meant : (d e : ℕ) → hex d ≡ true → hex e ≡ true → escape d e ≡ (if unreserved (meant d e) then meant d e ∷ [] else encoded (meant d e))
+unfolding escape
+escape_meant d e h k = split (unreserved (meant d e)) (λ u. rw u) (λ u. rw u (rw u at (escape_encoded d e h k u)))
 
--- an escape at the place `at`
-module _ (s : List ℕ) (at : ℕ) (e : is_escape (get_or s at 0) (drop (at + 1) s) ≡ true) where
-  pub escape_inside : at + 2 < length s
-  escape_inside =
-      split (ltb (length (drop (at + 1) s)) 2)
-      (λ k. absurd (true≢false (sym e ∙ no_digits (get_or s at 0) (drop (at + 1) s) (ltb-true (length (drop (at + 1) s)) 2 k))))
-      (λ k. omega (arith, ltb-false (length (drop (at + 1) s)) 2 k, length-drop (at + 1) s))
+replacement_escape : (stars : Bool) (s : List ℕ) (y : ℕ) → meant_by s ≡ Some y
+    → replacement stars (get_or s 0 0) (drop 1 s) ≡ (if unreserved y then y ∷ [] else encoded y)
+unfolding replacement escape_at
+replacement_escape stars [] y h = cc
+replacement_escape stars (c ∷ []) y h = cc
+replacement_escape stars (c ∷ d ∷ []) y h = cc
+replacement_escape stars (c ∷ d ∷ e ∷ l) y h =
+    let k : is_escape c (d ∷ e ∷ l) ≡ true = means_escape (c ∷ d ∷ e ∷ l) y h in
+    let x = escape_hex c d e l k in
+    let m : meant d e ≡ y = cc (rw k at (three c d e l)) in
+    rw (k, ← m) (escape_meant d e x.0 x.1)
 
-  pub escape_digits : (hex (get_or s (at + 1) 0) ≡ true) × (hex (get_or s (at + 2) 0) ≡ true)
-  escape_digits =
-      escape_hex (get_or s at 0) (get_or s (at + 1) 0) (get_or s (at + 2) 0) (drop (at + 3) s) (rw (two_behind s at escape_inside) at e)
+pub replacement_decoded : (stars : Bool) (s : List ℕ) (y : ℕ) → meant_by s ≡ Some y → unreserved y ≡ true → replacement stars (get_or s 0 0) (drop 1 s) ≡ y ∷ []
+replacement_decoded stars s y h u = rw u at (replacement_escape stars s y h)
 
-  pub changed_escape : (p : Replacement) → Escaped (get_or s (at + 1) 0) (get_or s (at + 2) 0) p → ChangedAt (get_or s at 0) (drop (at + 1) s) p
-  changed_escape p h = rw (e, escape_read s at escape_inside) h
+pub replacement_again : (stars : Bool) (s : List ℕ) (y : ℕ) → meant_by s ≡ Some y → unreserved y ≡ false → replacement stars (get_or s 0 0) (drop 1 s) ≡ encoded y
+replacement_again stars s y h u = rw u at (replacement_escape stars s y h)
 
--- an octet that begins no escape
-pub changed_alone : (x : ℕ) (l : List ℕ) (p : Replacement) → is_escape x l ≡ false → Encoded x p → ChangedAt x l p
-changed_alone x l p e h = rw e h
-
--- the octet meant, encoded, in place of an escape that isn't decoded
-pub escape_kept : (d e : ℕ) (p : Replacement) → hex d ≡ true → hex e ≡ true → unreserved (meant d e) ≡ false → Encoded (meant d e) p
-    → Escaped d e (record { first = p.first; second = p.second; third = p.third; single = false; taken = 3 })
-unfolding encoded
-escape_kept d e p h k u s =
-    let three = split p.single (λ t. absurd (omega (arith, rw t at (ap length s.octets)))) (λ t. rw t at s.octets) in
-    rw (escape_encoded d e h k u) (record { octets = three; taken = refl })
-
--- a replacement measured
-abbrev pub measure_of : Replacement → Measure
-measure_of p = record { size = length (octets_of p); taken = p.taken }
-
-module _ (stars : Bool) (x : ℕ) (l : List ℕ) where
-  pub measured : (p : Replacement) → ReplacementAt stars x l p → MeasureAt stars x l (measure_of p)
-  measured p h = record { size = ap length h.octets; taken = h.taken }
-
-  pub measure_kept : kept stars x ≡ true → MeasureAt stars x l (record { size = 1; taken = 1 })
-  measure_kept h = measured (alone x) (replacement_kept stars x l h)
-
-  pub measure_alone : kept stars x ≡ false → is_escape x l ≡ false → MeasureAt stars x l (record { size = 3; taken = 1 })
-  unfolding replacement plain encoded
-  measure_alone h e =
-      rw (e, not-false (is_encoded stars x) h) (record { size = refl; taken = refl })
-
-pub measure_escape : (stars : Bool) (s : List ℕ) (at n : ℕ) → is_escape (get_or s at 0) (drop (at + 1) s) ≡ true
-    → n ≡ length (escape (get_or s (at + 1) 0) (get_or s (at + 2) 0)) → MeasureAt stars (get_or s at 0) (drop (at + 1) s) (record { size = n; taken = 3 })
-unfolding replacement
-measure_escape stars s at n e h =
-    rw (e, escape_read s at (escape_inside s at e)) (record { size = h; taken = refl })
+pub replacement_alone : (stars : Bool) (s : List ℕ) → kept stars (get_or s 0 0) ≡ false → meant_by s ≡ None
+    → replacement stars (get_or s 0 0) (drop 1 s) ≡ encoded (get_or s 0 0)
+unfolding replacement plain
+replacement_alone stars s k h = rw (means_none s h, not-false (is_encoded stars (get_or s 0 0)) k)

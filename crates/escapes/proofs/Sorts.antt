@@ -2,28 +2,18 @@
 use Rattle.std.specs.Prelude.{if◌then◌else◌}
 use Prim.Native.Nat.{ℕ, ◌/◌, ◌%◌, ◌≤◌, ◌<◌}
 use mathlib.Core.Path.{◌≡◌, refl, ◌∙◌}
-use mathlib.Core.Bool.{Bool, true, false, not, false≢true}
+use mathlib.Core.Bool.{true, false, false≢true}
 use native.Mathlib.Omega.{arith}
-use lib.Dec.{leb, ltb, eqb}
+use lib.Dec.{leb, ltb}
 use borrow.Author.Tests.{ltb-true, ltb-false, leb-true, le-leb, lt-leb}
 use Rattle.lists.specs.Lists.{numbers_from}
 use Rattle.lists.proofs.Bools.{split, and_right}
 use Rattle.protocol.specs.Octets.{upper, lower, digit, unreserved, hex, lower_case, upper_case, hex_value, hex_digit}
-use Rattle.protocol.specs.Normal.{encoded, meant, escape, special}
+use Rattle.protocol.specs.Normal.{encoded, meant, escape}
 use Rattle.protocol.specs.Classes.{class_of}
 use Rattle.protocol.specs.declared.Sort.{Sort}
 use Rattle.protocol.proofs.Classes.{sort_told, value_told_lem}
 use Rattle.octets.proofs.Every.{every_octet_lem}
-use Rattle.escapes.specs.Escapes.{kept}
-
--- which octets stay as they are, by comparisons
-abbrev ladder : Bool → ℕ → Bool
-ladder stars x = if ltb 42 x then ltb x 127 else if eqb x 42 then stars else if eqb x 36 then false else not (eqb x 37)
-
-pub kept_ladder : (stars : Bool) (x : ℕ) → x < 256 → ladder stars x ≡ kept stars x
-unfolding numbers_from special
-kept_ladder true = every_octet_lem (ladder true) (kept true) refl
-kept_ladder false = every_octet_lem (ladder false) (kept false) refl
 
 module _ (x : ℕ) (h : hex x ≡ true) where
   -- every hex digit is an octet

@@ -4,7 +4,7 @@ use mathlib.Core.List.{List, [], ◌∷◌, ◌++◌, map, flatten}
 use Rattle.std.proofs.Math.Option.{Option, none, some}
 use Rattle.lists.specs.Each.{Each}
 use Rattle.lists.specs.Lists.{empty, all, any, from, same}
-use Rattle.protocol.specs.declared.Decision.{Decision}
+use Rattle.protocol.specs.Forms.{Decision}
 use Rattle.protocol.specs.Lines.{line_number, place_at, line_text, lines_from, has_leading_mark, ended}
 use Rattle.protocol.specs.Kinds.{kind_of}
 use Rattle.protocol.specs.Entries.{Role, agent, rule, role_of, entries_from}

@@ -15,6 +15,7 @@ use Rattle.lists.proofs.Bools.{split}
 use Rattle.lists.proofs.Scans.{drop_one}
 use Rattle.lists.proofs.Tests.{same_equal}
 use Rattle.octets.proofs.Every.{every_octet_lem}
+use Rattle.protocol.specs.declared.Side.{Side}
 use Rattle.protocol.specs.Octets.{within, upper, lower_case}
 use Rattle.protocol.specs.Text.{octets, same_ignoring_case}
 use Rattle.words.specs.Words.{octets_of}
@@ -88,9 +89,8 @@ Folds n = (x : ℕ) → x < 256 → map (by_letter x) n ≡ map (by_bit x) n
 name_folds : (f : Field) → Folds (name_front f)
 unfolding numbers_from octets lower_case upper
 name_folds Field.Agent = every_octet_lem (λ x. map (by_letter x) (name_front Field.Agent)) (λ x. map (by_bit x) (name_front Field.Agent)) refl
-name_folds Field.Allow = every_octet_lem (λ x. map (by_letter x) (name_front Field.Allow)) (λ x. map (by_bit x) (name_front Field.Allow)) refl
-name_folds Field.Disallow = every_octet_lem (λ x. map (by_letter x) (name_front Field.Disallow)) (λ x. map (by_bit x) (name_front Field.Disallow)) refl
-name_folds Field.Other = λ x h. refl
+name_folds (Field.Rule Side.Allow) = every_octet_lem (λ x. map (by_letter x) (name_front (Field.Rule Side.Allow))) (λ x. map (by_bit x) (name_front (Field.Rule Side.Allow))) refl
+name_folds (Field.Rule Side.Disallow) = every_octet_lem (λ x. map (by_letter x) (name_front (Field.Rule Side.Disallow))) (λ x. map (by_bit x) (name_front (Field.Rule Side.Disallow))) refl
 
 -- the octets of a name that aren't letters stand in a text from the index i on
 unfoldable pub plain_from : List ℕ → List ℕ → ℕ → Bool
@@ -143,11 +143,16 @@ module _ (s : List ℕ) (w : ℕ) (front : octets_of 8 w ≡ folded (take 8 s)) 
       ∙ ap (λ (l : List ℕ). same l (name_front f) && plain_from (name_front f) s 0) same-front
 
   -- a name of letters that goes no further
-  pub short_begins : (f : Field) → 8 ≤ length s → name_length f ≤ 8 → plain_from (name_front f) s 0 ≡ true → word_begins f (octets_of 8 w) ≡ begins_name f s
+  short_begins : (f : Field) → 8 ≤ length s → name_length f ≤ 8 → plain_from (name_front f) s 0 ≡ true → word_begins f (octets_of 8 w) ≡ begins_name f s
   short_begins f h short letters =
       sym (ap (λ (n : List ℕ). same_ignoring_case (take (length n) s) n) (sym (take_all 8 (octets (name_of f)) short))
       ∙ front_begins f h
       ∙ rw letters (and-true (word_begins f (octets_of 8 w))))
+
+  pub rule_begins : (side : Side) → 10 ≤ length s → word_begins (Field.Rule side) (octets_of 8 w) ≡ begins_name (Field.Rule side) s
+  unfolding octets plain_from
+  rule_begins Side.Allow h = short_begins (Field.Rule Side.Allow) (omega arith) (omega arith) refl
+  rule_begins Side.Disallow h = short_begins (Field.Rule Side.Disallow) (omega arith) (omega arith) refl
 
   -- the agent's name has a hyphen, and its last two octets stand behind them
   pub agent_begins : 10 ≤ length s

@@ -6,120 +6,98 @@ pub mod near; // near.rt: the same, sooner, of a line in a file that is written 
 
 ghost use Rattle.std.specs.Prelude.{◌≡◌, drop};
 ghost use Rattle.protocol.specs.Text.{begins};
-ghost use Rattle.protocol.specs.Lines.{place_at};
-ghost use Rattle.protocol.specs.Classes.{class_table};
 ghost use Rattle.fields.specs.Fields.{head_of};
 ghost use Rattle.fields.specs.Names.{name_length, row_of, begins_name, field_at};
 
-use protocol::{ClassTable, FIELDS, Place};
+use octets::Classes;
+use protocol::{FIELDS, Place, Side};
 
-// A field that the protocol knows, or any other; a line without a field has the other one.
-#[derive(Clone, Copy)]
+// A field that the protocol knows: that of an agent line, or of a rule.
+#[derive(Clone, Copy, PartialEq, Eq)]
 pub enum Field {
     Agent,
-    Allow,
-    Disallow,
-    Other,
+    Rule(Side),
 }
 
-// The field of a line, and where its value begins: 0 where the field is the other one.
+// The field of a line, and where its value begins.
 #[derive(Clone, Copy)]
 pub struct Head {
     pub field: Field,
     pub value: Place,
 }
 
-// The row of a field's name. Any other field can have any name: none of a row's octets belong to it.
-fn row_of(field: Field) -> usize
-    ensures { result ≡ row_of field }
-{
-    match field {
-        Field::Agent => 0,
-        Field::Allow => 1,
-        Field::Disallow => 2,
-        Field::Other => 0,
+impl Field {
+    // The row of its name in the table.
+    fn row(self) -> usize
+        ensures { result ≡ row_of self }
+    {
+        match self {
+            Field::Agent => 0,
+            Field::Rule(Side::Allow) => 1,
+            Field::Rule(Side::Disallow) => 2,
+        }
     }
-}
 
-// The octets of a field's name.
-pub fn name_length(field: Field) -> usize
-    ensures { result ≡ name_length field }
-{
-    match field {
-        Field::Agent => 10,
-        Field::Allow => 5,
-        Field::Disallow => 8,
-        Field::Other => 0,
+    // The octets of its name.
+    #[tactic(auto, unfolding(protocol::specs::Text::octets))]
+    pub fn name_length(self) -> usize
+        ensures { result ≡ name_length self }
+    {
+        match self {
+            Field::Agent => 10,
+            Field::Rule(Side::Allow) => 5,
+            Field::Rule(Side::Disallow) => 8,
+        }
     }
-}
 
-// A text begins with the field's name, ASCII case ignored.
-fn begins_name(classes: &ClassTable, s: &[u8], field: Field) -> bool
-    requires { classes.now ≡ class_table }
-    ensures { result ≡ begins_name field s.now }
-{
-    let row = row_of(field);
-    let size = name_length(field);
-    let name = FIELDS[row];
-    text::same::begins_with(classes, s, &name[..size])
+    // A text begins with its name, ASCII case ignored.
+    fn begins(self, classes: &Classes, s: &[u8]) -> bool
+        ensures { result ≡ begins_name self s.now }
+    {
+        let name = FIELDS[self.row()];
+        text::same::begins_with(classes, s, &name[..self.name_length()])
+    }
 }
 
 // The field whose name a text begins with, ASCII case ignored.
-fn field_at(classes: &ClassTable, s: &[u8]) -> Field
-    requires { classes.now ≡ class_table }
+#[tactic(auto, unfolding(crate::specs::Names::field_at))]
+fn field_at(classes: &Classes, s: &[u8]) -> Option<Field>
     ensures { result ≡ field_at s.now }
 {
-    if begins_name(classes, s, Field::Disallow) {
-        return Field::Disallow;
+    if Field::Rule(Side::Disallow).begins(classes, s) {
+        return Some(Field::Rule(Side::Disallow));
     }
-    if begins_name(classes, s, Field::Allow) {
-        return Field::Allow;
+    if Field::Rule(Side::Allow).begins(classes, s) {
+        return Some(Field::Rule(Side::Allow));
     }
-    if begins_name(classes, s, Field::Agent) {
-        return Field::Agent;
+    if Field::Agent.begins(classes, s) {
+        return Some(Field::Agent);
     }
-    Field::Other
+    None
 }
 
 // A colon stands there.
 pub fn colon_at(s: &[u8], at: Place) -> bool
     ensures { result ≡ begins ":" (drop at.offset s.now) }
 {
-    let i = at.offset;
-    if s.len() <= i {
-        return false;
-    }
-    s[i] == b':'
+    s.get(at.offset) == Some(&b':')
 }
 
-pub fn no_head() -> Head
-    ensures { result ≡ record { field = Field.Other; value = place_at 0 } }
-{
-    Head {
-        field: Field::Other,
-        value: Place { offset: 0 },
-    }
-}
-
-// The head of the line that a text begins with.
-pub fn head_of(classes: &ClassTable, r: &[u8]) -> Head
-    requires { classes.now ≡ class_table }
+// The head of the line that a text begins with, if the protocol knows its field.
+pub fn head_of(classes: &Classes, r: &[u8]) -> Option<Head>
     ensures { result ≡ head_of r.now }
 {
     let start = text::lead(classes, r);
-    let field = field_at(classes, &r[start..]);
-    if let Field::Other = field {
-        return no_head();
-    }
-    let after = start + name_length(field);
+    let field = field_at(classes, &r[start..])?;
+    let after = start + field.name_length();
     let colon = after + text::lead(classes, &r[after..]);
     if !colon_at(r, Place { offset: colon }) {
-        return no_head();
+        return None;
     }
     let behind = colon + 1;
     let value = behind + text::lead(classes, &r[behind..]);
-    Head {
+    Some(Head {
         field,
         value: Place { offset: value },
-    }
+    })
 }

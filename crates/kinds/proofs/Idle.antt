@@ -1,5 +1,5 @@
 -- The kind of a line without a field that is known, by its first colon or stop. Assumes nothing.
-use Rattle.std.specs.Prelude.{if◌then◌else◌}
+use Rattle.std.specs.Prelude.{None, if◌then◌else◌}
 use Prim.Native.Nat.{ℕ, ◌-◌}
 use mathlib.Core.Path.{◌≡◌, refl, sym, ap, ◌∙◌}
 use mathlib.Core.Bool.{true, false}
@@ -14,7 +14,6 @@ use Rattle.protocol.specs.Octets.{is}
 use Rattle.protocol.specs.Text.{begins, solid, lead, trim_end, trim}
 use Rattle.protocol.specs.Lines.{line_text}
 use Rattle.protocol.specs.Kinds.{kind_of}
-use Rattle.fields.specs.declared.Field.{Field}
 use Rattle.protocol.specs.Classes.{stop, delimiter}
 use Rattle.fields.specs.Fields.{field_of, ended}
 use Rattle.lists.proofs.Cuts.{up_to_none, up_to_either, up_to_past, any_past}
@@ -45,7 +44,7 @@ module _ (r : List ℕ) (start n : ℕ) (s : start ≡ lead r) (k : n ≡ length
       ∙ colon_first t
       ∙ ap (begins ":") (sym (ap (λ (i : ℕ). drop i t) delimiter_told ∙ drop_up_to delimiter t) ∙ ap (drop n) (sym (past_start r start s)))
 
-  pub idle_other : begins ":" (drop n rest) ≡ true → field_of (kind_of (line_text r)) ≡ Field.Other → Kind.Other ≡ kind_of (line_text r)
+  pub idle_other : begins ":" (drop n rest) ≡ true → field_of (kind_of (line_text r)) ≡ None → Kind.Other ≡ kind_of (line_text r)
   idle_other e o = kind_other r (colon_told ∙ e) o
 
   module _ (e : begins ":" (drop n rest) ≡ false) where

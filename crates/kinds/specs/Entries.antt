@@ -1,5 +1,5 @@
 -- The kind of a line for a pass over a file, to which blank, noise and other lines are all one; and what is told of a value. Assumes nothing.
-use Rattle.std.specs.Prelude.{ℕ, List, length}
+use Rattle.std.specs.Prelude.{ℕ, List, Option, Some, None, length}
 use Rattle.lists.specs.Lists.{all, up_to}
 use Rattle.protocol.specs.declared.Kind.{Kind}
 use Rattle.protocol.specs.declared.Place.{Place}
@@ -8,7 +8,7 @@ use Rattle.protocol.specs.Lines.{place_at, place_after, line_text}
 use Rattle.protocol.specs.Kinds.{kind_of}
 use Rattle.protocol.specs.Classes.{stop}
 use Rattle.readable.specs.Due.{ordinary}
-use Rattle.fields.specs.declared.Field.{Field}
+use Rattle.fields.specs.declared.Head.{Head}
 use Rattle.fields.specs.Fields.{head_of, value_at}
 use Rattle.kinds.specs.declared.entry.Entry.{Entry}
 use Rattle.kinds.specs.declared.entry.Value.{Value}
@@ -21,16 +21,14 @@ entry_kind Kind.Other = Kind.Other
 entry_kind (Kind.Agent a) = Kind.Agent a
 entry_kind (Kind.Rule side p) = Kind.Rule side p
 
--- where what is examined of a line ends: with the value that begins at p, where its field is known
-abbrev pub examined_as : Field → Place → List ℕ → Place
-examined_as Field.Agent p l = place_after p (length (value_at p l))
-examined_as Field.Allow p l = place_after p (length (value_at p l))
-examined_as Field.Disallow p l = place_after p (length (value_at p l))
-examined_as Field.Other p l = place_at 0
+-- where what is examined of a line with that head ends: with its value; 0 without a head
+abbrev pub examined : Option Head → List ℕ → Place
+examined None l = place_at 0
+examined (Some h) l = place_after h.value (length (value_at h.value l))
 
 -- both, of the line that a text begins with
 abbrev pub entry_told : List ℕ → Entry
-entry_told l = record { kind = entry_kind (kind_of (line_text l)); end = examined_as (head_of l).field (head_of l).value l }
+entry_told l = record { kind = entry_kind (kind_of (line_text l)); end = examined (head_of l) l }
 
 -- the value that a text begins with
 abbrev pub value_front : List ℕ → List ℕ

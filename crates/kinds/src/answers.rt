@@ -2,30 +2,30 @@
 
 ghost use Rattle.std.specs.Prelude.{◌≡◌};
 ghost use Rattle.protocol.specs.Answers.{line_answer, refusal_of};
-ghost use Rattle.protocol.specs.Classes.{class_table};
+ghost use Rattle.protocol.specs.Outcomes.{number_of, line_answer_of};
 
-use protocol::{ClassTable, LineAnswer};
+use octets::Classes;
+use protocol::{Kind, Refusal};
 
-pub fn line_refusal(classes: &ClassTable, line: &[u8]) -> usize
-    requires { classes.now ≡ class_table }
-    ensures { result ≡ refusal_of (line_answer line.now) }
+// Why a line is refused.
+#[tactic(auto, using(crate::proofs::Answering::line_long, crate::proofs::Answering::line_several, crate::proofs::Answering::line_good))]
+pub fn check_line(classes: &Classes, line: &[u8]) -> Result<(), Refusal>
+    ensures { number_of result ≡ refusal_of (line_answer line.now) }
 {
     if 512000 < line.len() {
-        return 1;
+        return Err(Refusal::TooLong);
     }
     if text::holds_line_end(classes, line) {
-        return 9;
+        return Err(Refusal::SeveralLines);
     }
-    0
+    Ok(())
 }
 
-pub fn line_answer(classes: &ClassTable, line: &[u8]) -> LineAnswer
-    requires { classes.now ≡ class_table }
-    ensures { result ≡ line_answer line.now }
+// A line's kind, unless it is refused.
+#[tactic(auto, using(crate::proofs::Answering::kind_answer))]
+pub fn line_answer(classes: &Classes, line: &[u8]) -> Result<Kind, Refusal>
+    ensures { line_answer_of result ≡ line_answer line.now }
 {
-    let refusal = line_refusal(classes, line);
-    if refusal != 0 {
-        return LineAnswer::Refused(refusal);
-    }
-    LineAnswer::Kind(crate::line::kind_of(classes, line))
+    check_line(classes, line)?;
+    Ok(crate::line::kind_of(classes, line))
 }

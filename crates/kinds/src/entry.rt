@@ -1,15 +1,18 @@
 // The kind of a line for a pass over a file. Most lines of most files have a value of ordinary octets, which are looked at eight at a time.
-// Each function here has one caller, so that the compiler makes one loop of them all.
+// `entry_at` and what it calls are put into its callers, so that the compiler makes one loop of them all.
 
-ghost use Rattle.std.specs.Prelude.{◌≡◌, length};
+ghost use Rattle.std.specs.Prelude.{◌≡◌, Some, length};
 ghost use Rattle.lists.specs.Lists.{all, up_to};
+ghost use Rattle.protocol.specs.Lines.{line_text, place_after};
 ghost use Rattle.protocol.specs.Readable.{readable_pattern};
-ghost use Rattle.protocol.specs.Classes.{class_table};
+ghost use Rattle.protocol.specs.Kinds.{agent_at, pattern_at, kind_of};
 ghost use Rattle.readable.specs.Due.{ordinary, unusual};
+ghost use Rattle.fields.specs.Fields.{head_of, value_at, kind_as};
 ghost use Rattle.kinds.specs.Entries.{entry_told, value_told};
 
-use fields::Field;
-use protocol::{ClassTable, Kind, Place};
+use fields::{Field, Head};
+use octets::Classes;
+use protocol::{Agent, Kind, Pattern, Place};
 
 // A line, for a pass: its kind, and where what is examined of it ends, from where the next line is looked for.
 #[derive(Clone, Copy)]
@@ -18,14 +21,16 @@ pub struct Entry {
     pub end: Place,
 }
 
-// The octets of a value, and whether all of them are ordinary.
+// The octets of a value, and whether all of them are ordinary. Both are told of each value, so that they are no `Option`.
 #[derive(Clone, Copy)]
 struct Value {
     octets: usize,
     ordinary: bool,
 }
 
-// How many ordinary octets stand in front.
+// How many ordinary octets stand in front. `readable::ordinary_front` tells the same; with it in this place, a line takes a tenth more time. An
+// iterator over the words would need the octets that are passed counted beside it.
+#[inline(always)]
 fn ordinary_words(s: &[u8]) -> usize
     ensures { result ≡ length (up_to unusual s.now) }
 {
@@ -42,8 +47,8 @@ fn ordinary_words(s: &[u8]) -> usize
 
 // The value that a text begins with. Where spaces and tabs and then a stop stand behind the ordinary octets, these are the value; otherwise it goes
 // on behind them, and they are not looked at again.
-fn value_in(classes: &ClassTable, s: &[u8]) -> Value
-    requires { classes.now ≡ class_table }
+#[inline(always)]
+fn value_in(classes: &Classes, s: &[u8]) -> Value
     ensures { result ≡ value_told s.now }
 {
     let octets = ordinary_words(s);
@@ -67,7 +72,25 @@ fn value_in(classes: &ClassTable, s: &[u8]) -> Value
     }
 }
 
+// The agent of a value, which stands at that place. It and `pattern_at` stay two: an agent and a pattern are types of the protocol, and an empty
+// agent isn't told as an empty pattern is.
+#[tactic(auto, using(crate::proofs::Kinding::agent_none, crate::proofs::Kinding::agent_readable, crate::proofs::Kinding::agent_unreadable))]
+fn agent_at(classes: &Classes, place: Place, value: &[u8]) -> Agent
+    ensures { result ≡ agent_at place value.now }
+{
+    if value.is_empty() {
+        return Agent::Unreadable(Place { offset: 0 }, 0);
+    }
+    if readable::readable_agent(classes, value) {
+        Agent::Readable(place, value.len())
+    } else {
+        Agent::Unreadable(place, value.len())
+    }
+}
+
 // A value is a readable pattern. Ordinary octets are whole characters.
+#[tactic(auto, using(crate::proofs::Values::ordinary_readable))]
+#[inline(always)]
 fn is_pattern(value: &[u8], usual: bool) -> bool
     requires { usual ≡ all ordinary value.now }
     ensures { result ≡ readable_pattern value.now }
@@ -78,34 +101,62 @@ fn is_pattern(value: &[u8], usual: bool) -> bool
     readable::readable_pattern(value)
 }
 
-// The kind of the line that a text begins with, and where what is examined of it ends.
-pub fn entry_of(classes: &ClassTable, r: &[u8]) -> Entry
-    requires { classes.now ≡ class_table }
-    ensures { result ≡ entry_told r.now }
+// The pattern of a value, likewise; `usual` says whether all its octets are ordinary.
+#[tactic(auto, using(crate::proofs::Kinding::pattern_none, crate::proofs::Kinding::pattern_readable, crate::proofs::Kinding::pattern_unreadable))]
+#[inline(always)]
+fn pattern_at(place: Place, value: &[u8], usual: bool) -> Pattern
+    requires { usual ≡ all ordinary value.now }
+    ensures { result ≡ pattern_at place value.now }
 {
-    let head = fields::near::head_in(classes, r);
-    let field = head.field;
-    if let Field::Other = field {
-        return Entry {
-            kind: Kind::Other,
-            end: Place { offset: 0 },
-        };
+    if value.is_empty() {
+        return Pattern::Empty;
     }
+    if is_pattern(value, usual) {
+        Pattern::Readable(place, value.len())
+    } else {
+        Pattern::Unreadable(place, value.len())
+    }
+}
+
+// The kind of a line with that head, whose value is given.
+#[inline(always)]
+fn kind_with(classes: &Classes, head: Head, value: &[u8], usual: bool) -> Kind
+    requires { usual ≡ all ordinary value.now }
+    ensures { result ≡ kind_as head.field head.value value.now }
+{
+    match head.field {
+        Field::Agent => Kind::Agent(agent_at(classes, head.value, value)),
+        Field::Rule(side) => Kind::Rule(side, pattern_at(head.value, value, usual)),
+    }
+}
+
+// The kind of a line whose head is known, and where what is examined of it ends.
+#[inline(always)]
+pub fn entry_at(classes: &Classes, r: &[u8], head: Head) -> Entry
+    requires { Some head ≡ head_of r.now }
+    ensures kind { result.kind ≡ kind_of (line_text r.now) }
+    ensures end { result.end ≡ place_after head.value (length (value_at head.value r.now)) }
+{
     let start = head.value.offset;
     let rest = &r[start..];
     let told = value_in(classes, rest);
-    let value = &rest[..told.octets];
-    let last = start + told.octets;
-    let end = Place { offset: last };
-    if let Field::Agent = field {
-        let kind = Kind::Agent(crate::line::agent_at(classes, head.value, value));
-        return Entry { kind, end };
-    }
-    let side = crate::line::side_of(field);
-    let is_readable = is_pattern(value, told.ordinary);
-    let pattern = crate::line::pattern_at(head.value, value, is_readable);
-    Entry {
-        kind: Kind::Rule(side, pattern),
-        end,
+    let kind = kind_with(classes, head, &rest[..told.octets], told.ordinary);
+    let end = Place {
+        offset: start + told.octets,
+    };
+    Entry { kind, end }
+}
+
+// The kind of the line that a text begins with, and where what is examined of it ends.
+#[tactic(auto, using(crate::proofs::Kinding::none_told))]
+pub fn entry_of(classes: &Classes, r: &[u8]) -> Entry
+    ensures { result ≡ entry_told r.now }
+{
+    match fields::near::head_in(classes, r) {
+        None => Entry {
+            kind: Kind::Other,
+            end: Place { offset: 0 },
+        },
+        Some(head) => entry_at(classes, r, head),
     }
 }

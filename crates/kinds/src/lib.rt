@@ -2,6 +2,6 @@
 
 #![tactic(auto)]
 
-pub mod entry; // entry.rt: the kind of a line for a pass over a file
+pub mod entry; // entry.rt: the kind of a line for a pass over a file, and that of a line whose head is known
 pub mod line; // line.rt: the kind of a line
-pub mod answers; // answers.rt: the answer to a caller who asks for it, and its numbers
+pub mod answers; // answers.rt: the answer to a caller who asks for it

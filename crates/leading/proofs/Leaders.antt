@@ -12,7 +12,7 @@ use Rattle.lists.proofs.Bools.{split}
 use Rattle.protocol.specs.declared.Dialect.{Dialect}
 use Rattle.protocol.specs.declared.Side.{Side}
 use Rattle.protocol.specs.declared.Rule.{Rule}
-use Rattle.protocol.specs.declared.Decision.{Decision}
+use Rattle.protocol.specs.Forms.{Decision}
 use Rattle.protocol.specs.Decision.{pattern_of, decided_among}
 use Rattle.protocol.specs.Answers.{side_number}
 use Rattle.walk.specs.Weights.{weighed}

@@ -1,89 +1,44 @@
--- One rule of a table, as its numbers tell it: where its pattern stands, and who leads after it; and the rules behind it. Assumes nothing.
-use Prim.Native.Nat.{ℕ, ◌+◌, ◌*◌, ◌-◌, ◌≤◌, ◌<◌}
-use mathlib.Core.Path.{◌≡◌, refl, sym, ap, ◌∙◌}
-use mathlib.Core.Bool.{true, false}
-use mathlib.Core.List.{List, [], ◌∷◌}
-use native.Mathlib.Omega.{arith}
-use lib.ListN.{length, take, drop, get_or, length-drop}
-use lib.Seq.{length-take-le}
+-- One rule of a table, and who leads after it; and the rules behind it. Assumes nothing.
+use Rattle.std.proofs.Common.{ℕ, ◌≡◌, ◌+◌, ◌≤◌, true, false, List, [], ◌∷◌, drop, length, length-drop, refl, arith, ◌<◌, sym}
+use Rattle.std.proofs.Math.Seq.{length-take-le}
+use Rattle.std.proofs.Math.ListN.{get_or, drop_of_length-le}
+use Rattle.std.proofs.lemmas.List.{at_drop_more}
 use Rattle.protocol.specs.declared.Dialect.{Dialect}
 use Rattle.protocol.specs.declared.Rule.{Rule}
 use Rattle.protocol.specs.Text.{octets_at}
-use Rattle.protocol.specs.Lines.{line_number}
 use Rattle.protocol.specs.Decision.{pattern_of}
+use Rattle.protocol.specs.Answers.{side_number}
 use Rattle.walk.specs.Weights.{weighed}
-use Rattle.tables.specs.Tables.{front_of, rule_at, front_at, rules_from, SoundAt}
-use Rattle.tables.proofs.Kept.{rules_next}
+use Rattle.tables.specs.declared.Kept.{Kept}
+use Rattle.tables.specs.Tables.{rules_of}
 use Rattle.leading.specs.declared.Leader.{Leader}
-use Rattle.leading.specs.Leading.{outdoes, settled, led, led_all, Room}
+use Rattle.leading.specs.Leading.{outdoes, settled, led, led_all}
 
-module _ {file table path scratch : List ℕ} (i : ℕ) (room : Room file table (i + 1) path scratch) where
-  abbrev start : ℕ
-  start = get_or table (5 * i) 0
+-- a pattern is no longer than the file that it stands in
+pub pattern_few : (file : List ℕ) (r : Rule) → r.place.offset + r.length ≤ length file → length (pattern_of file r) ≤ length file
+unfolding octets_at
+pattern_few file r inside =
+    omega (arith, length-drop r.place.offset file, length-take-le r.length (drop r.place.offset file) (omega (arith, length-drop r.place.offset file, inside)), inside)
 
-  abbrev octets : ℕ
-  octets = get_or table (5 * i + 1) 0
+-- who leads after a rule that is walked
+module _ (d : Dialect) (file path : List ℕ) (l : Leader) (r : Rule) (w : ℕ) (h : w ≡ (weighed d (pattern_of file r) path).weight) (e : settled d l ≡ false) where
+  pub led_taken : outdoes w (side_number r.side) l ≡ true → record { weight = w; side = side_number r.side; line = r.line } ≡ led d file path l r
+  unfolding led
+  led_taken t = rw (e, ← h, t)
 
-  abbrev side : ℕ
-  side = get_or table (5 * i + 3) 0
+  pub led_passed : outdoes w (side_number r.side) l ≡ false → l ≡ led d file path l r
+  unfolding led
+  led_passed t = rw (e, ← h, t)
 
-  sound : SoundAt file table i
-  sound = room.sound.1 i (omega arith)
-
-  -- the octets that are lent
-  abbrev lent : List ℕ
-  lent = take (start + octets - start) (drop start file)
-
-  pub rule_within : start + octets ≤ length file
-  rule_within = sound.inside
-
-  lent_pattern : lent ≡ pattern_of file (rule_at table i)
-  unfolding octets_at
-  lent_pattern = let n : start + octets - start ≡ octets = omega arith in rw n
-
-  pub lent_front : front_at table i ≡ front_of lent
-  lent_front = sound.front ∙ ap front_of (sym lent_pattern)
-
-  pub lent_size : length lent ≤ 512_000
-  lent_size =
-      let n : start + octets - start ≤ length (drop start file) = omega (arith, length-drop start file, rule_within) in
-      omega (arith, length-take-le (start + octets - start) (drop start file) n, rule_within, room.size)
-
-  -- who leads after it
-  module _ (d : Dialect) (l : Leader) where
-    module _ (w : ℕ) (h : w ≡ (weighed d lent path).weight) (e : settled d l ≡ false) where
-      weight_of_lem : w ≡ (weighed d (pattern_of file (rule_at table i)) path).weight
-      weight_of_lem = h ∙ ap (λ (p : List ℕ). (weighed d p path).weight) lent_pattern
-
-      pub led_taken : outdoes w side l ≡ true
-          → record { weight = w; side = side; line = line_number (get_or table (5 * i + 2) 0) } ≡ led d file path l (rule_at table i)
-      unfolding led
-      led_taken t = rw (e, ← weight_of_lem, ← sound.side, t)
-
-      pub led_passed : outdoes w side l ≡ false → l ≡ led d file path l (rule_at table i)
-      unfolding led
-      led_passed t = rw (e, ← weight_of_lem, ← sound.side, t)
-
--- there is room for each of n rules, whatever the walks before it left in the scratch
-pub room_next : {file table : List ℕ} {n : ℕ} {path scratch : List ℕ} → Room file table n path scratch → (i : ℕ) (lent : List ℕ) → i < n → length lent ≡ length scratch
-    → Room file table (i + 1) path lent
-room_next room i lent h k =
-    record {
-      size = room.size;
-      sound = (omega (arith, h, room.sound.0), λ j e. room.sound.1 j (omega (arith, h, e)));
-      short = room.short;
-      lent = omega (arith, k, room.lent);
-    }
-
--- the rules from place i on, of n
-module _ (d : Dialect) (file path : List ℕ) (l : Leader) (table : List ℕ) (n i : ℕ) where
-  pub led_next : i < n → led_all d file path (led d file path l (rule_at table i)) (rules_from (i + 1) (n - (i + 1)) table) ≡ led_all d file path l (rules_from i (n - i) table)
+-- the rules of a table from place i on
+module _ (d : Dialect) (file path : List ℕ) (l : Leader) (t : List Kept) (i : ℕ) where
+  pub led_next : (k : Kept) → i < length t → led_all d file path (led d file path l (get_or t i k).rule) (rules_of (drop (i + 1) t)) ≡ led_all d file path l (rules_of (drop i t))
   unfolding led_all
-  led_next h = rw (rules_next i n table h)
+  led_next k h = sym (at_drop_more (λ (u : List Kept). led_all d file path l (rules_of u)) t i k h)
 
-  pub led_end : n ≤ i → led_all d file path l (rules_from i (n - i) table) ≡ l
-  unfolding led_all rules_from
-  led_end h = let none : n - i ≡ 0 = omega (arith, h) in rw none
+  pub led_end : length t ≤ i → led_all d file path l (rules_of (drop i t)) ≡ l
+  unfolding led_all
+  led_end h = rw (drop_of_length-le t {i = i} h)
 
 -- where no further rule is walked, the leader stays
 pub led_settled : (d : Dialect) (file path : List ℕ) (l : Leader) (rs : List Rule) → settled d l ≡ true → led_all d file path l rs ≡ l

@@ -1,11 +1,13 @@
 -- The rule that leads for a path, after some rules: of the decision only its side and line are kept, with its weight. Assumes nothing.
-use Rattle.std.specs.Prelude.{ℕ, ◌+◌, ◌≤◌, Bool, false, ◌&&◌, ◌||◌, List, [], ◌∷◌, ltb, eqb, length, if◌then◌else◌}
+use Rattle.std.specs.Prelude.{ℕ, ◌+◌, ◌≤◌, Bool, ◌&&◌, ◌||◌, List, [], ◌∷◌, ltb, eqb, length, if◌then◌else◌}
 use Rattle.protocol.specs.declared.Dialect.{Dialect}
 use Rattle.protocol.specs.declared.Rule.{Rule}
 use Rattle.protocol.specs.Lines.{line_number}
 use Rattle.protocol.specs.Decision.{pattern_of}
 use Rattle.protocol.specs.Answers.{side_number}
 use Rattle.walk.specs.Weights.{weighed}
+use Rattle.considering.specs.Considering.{first_settles}
+use Rattle.tables.specs.declared.Kept.{Kept}
 use Rattle.tables.specs.Tables.{Sound}
 use Rattle.leading.specs.declared.Leader.{Leader}
 
@@ -24,8 +26,7 @@ led_by w r l =
 
 -- no further rule is walked: in the draft's dialect behind the first match
 abbrev pub settled : Dialect → Leader → Bool
-settled Dialect.Rfc9309 l = false
-settled Dialect.Draft1996 l = ltb 0 l.weight
+settled d l = first_settles d (ltb 0 l.weight)
 
 -- one rule more of a file, for a normalised path
 unfoldable pub led : Dialect → List ℕ → List ℕ → Leader → Rule → Leader
@@ -41,7 +42,7 @@ abbrev pub whole_weight : ℕ → ℕ → ℕ
 whole_weight front rest = if eqb rest 0 then 0 else front + rest
 
 -- there is room for the walks of the first n rules of a table
-pub record Room (file table : List ℕ) (n : ℕ) (path scratch : List ℕ) : Type 0 where
+pub record Room (file : List ℕ) (table : List Kept) (n : ℕ) (path scratch : List ℕ) : Type 0 where
   pub size : length file ≤ 512_000
   pub sound : Sound file n table
   pub short : length path ≤ 6_142

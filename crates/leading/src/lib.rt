@@ -5,12 +5,14 @@
 
 ghost use Rattle.std.specs.Prelude.{◌≡◌, false, ◌+◌, ◌≤◌, ◌<◌, ◌^◌, length};
 ghost use Rattle.walk.specs.Weights.{weighed};
-ghost use Rattle.tables.specs.Tables.{front_of, rule_at, rules_from};
+ghost use Rattle.tables.specs.Tables.{front_of, rules_from, SoundKept};
 ghost use Rattle.leading.specs.Leading.{outdoes, settled, led, led_all, whole_weight, Room};
 
 use protocol::{Dialect, LineNumber};
+use tables::Kept;
 
-// The rule that leads so far: its weight, its side's number and its line. All zeros where none has matched.
+// The rule that leads so far: its weight, its side and its line, numbers as the memory lent for the answers holds them between two rounds
+// (`leader_in` of the specs of rounds). All zeros where none has matched.
 #[derive(Clone, Copy)]
 pub struct Leader {
     pub weight: usize,
@@ -18,26 +20,19 @@ pub struct Leader {
     pub line: LineNumber,
 }
 
-// A rule of that weight and side leads from now on: allow before disallow at equal weight.
-fn is_ahead(weight: usize, side: usize, leader: Leader) -> bool
-    ensures { result ≡ outdoes weight side leader }
-{
-    if leader.weight < weight {
-        return true;
+impl Leader {
+    // A rule of that weight and side leads from now on: allow before disallow at equal weight.
+    fn is_outdone(self, weight: usize, side: usize) -> bool
+        ensures { result ≡ outdoes weight side self }
+    {
+        self.weight < weight || self.weight == weight && side < self.side
     }
-    if leader.weight == weight {
-        return side < leader.side;
-    }
-    false
-}
 
-// No further rule is walked: in the draft's dialect the first match decides.
-fn is_settled(dialect: Dialect, leader: Leader) -> bool
-    ensures { result ≡ settled dialect leader }
-{
-    match dialect {
-        Dialect::Rfc9309 => false,
-        Dialect::Draft1996 => 0 < leader.weight,
+    // No further rule is walked.
+    fn is_settled(self, dialect: Dialect) -> bool
+        ensures { result ≡ settled dialect self }
+    {
+        considering::is_settled(dialect, 0 < self.weight)
     }
 }
 
@@ -46,10 +41,7 @@ fn whole_weight(front: usize, rest: usize) -> usize
     requires { front + rest < 2 ^ 64 }
     ensures { result ≡ whole_weight front rest }
 {
-    if rest == 0 {
-        return 0;
-    }
-    front + rest
+    if rest == 0 { 0 } else { front + rest }
 }
 
 // The weight of what stands behind a pattern's literal octets, where it matches what stands behind them in the path.
@@ -89,41 +81,43 @@ fn weigh_from(
     whole_weight(front, rest)
 }
 
-// After the rule at place i of a table, which is to be walked.
+// After one rule more, which is to be walked.
 fn lead(
     dialect: Dialect,
     file: &[u8],
-    table: &[usize],
-    i: usize,
+    kept: &Kept,
     path: &[u8],
     scratch: &mut [u8],
     leader: Leader,
 ) -> Leader
-    requires { Room file.now table.now (i + 1) path.now scratch.old × (settled dialect leader ≡ false) }
-    ensures value { result ≡ led dialect file.now path.now leader (rule_at table.now i) }
+    requires file_size { length file.now ≤ 512000 }
+    requires sound { SoundKept file.now kept.now }
+    requires path_short { length path.now ≤ 6142 }
+    requires scratch_fits { length path.now ≤ length scratch.old }
+    requires unsettled { settled dialect leader ≡ false }
+    ensures value { result ≡ led dialect file.now path.now leader kept.now.rule }
     ensures scratch_len_unchanged { length scratch.new ≡ length scratch.old }
 {
-    let at = 5 * i;
-    let start = table[at];
-    let end = start + table[at + 1];
-    let side = table[at + 3];
-    let weight = weigh_from(dialect, table[at + 4], &file[start..end], path, scratch);
-    if is_ahead(weight, side, leader) {
-        let number = table[at + 2];
-        return Leader {
+    let rule = kept.rule;
+    let pattern = considering::pattern_of(file, rule);
+    let weight = weigh_from(dialect, kept.front, pattern, path, scratch);
+    let side = usize::from(rule.side);
+    if leader.is_outdone(weight, side) {
+        Leader {
             weight,
             side,
-            line: LineNumber { number },
-        };
+            line: rule.line,
+        }
+    } else {
+        leader
     }
-    leader
 }
 
 // After the first `count` rules of a table.
 pub fn lead_all(
     dialect: Dialect,
     file: &[u8],
-    table: &[usize],
+    table: &[Kept],
     count: usize,
     path: &[u8],
     scratch: &mut [u8],
@@ -134,13 +128,11 @@ pub fn lead_all(
     ensures scratch_len_unchanged { length scratch.new ≡ length scratch.old }
 {
     let mut leader = before;
-    let mut i = 0;
-    while i < count {
-        if is_settled(dialect, leader) {
-            return leader;
+    for kept in &table[..count] {
+        if leader.is_settled(dialect) {
+            break;
         }
-        leader = lead(dialect, file, table, i, path, scratch, leader);
-        i += 1;
+        leader = lead(dialect, file, kept, path, scratch, leader);
     }
     leader
 }

@@ -7,7 +7,9 @@ use mathlib.Core.List.{List, [], ◌∷◌}
 use native.Mathlib.Omega.{arith}
 use lib.Dec.{eqb}
 use lib.ListN.{length, drop, get_or, drop_of_length-le}
-use borrow.Author.Tests.{eqb-true}
+use borrow.Author.Rules.{rules}
+use borrow.Author.Tests.{eqb-true, eqb-false, eq-eqb, ne_eqb}
+use Rattle.std.specs.List.{starts_with}
 use Rattle.lists.proofs.Bools.{split}
 use Rattle.protocol.specs.declared.LineNumber.{LineNumber}
 use Rattle.protocol.specs.declared.Place.{Place}
@@ -27,24 +29,29 @@ module _ (c : ℕ) (l : List ℕ) where
   unfolding ending_length
   other_ending e h = rw (h, e)
 
--- one octet is left, or more
-pub last_ending : (s : List ℕ) → length s ≡ 1 → line_end (get_or s 0 0) ≡ true → ending_length s ≡ 1
+-- CR LF, and any other ending, which may be the last octet
+pub ending_cr_lf : (s : List ℕ) → 2 ≤ length s → get_or s 0 0 ≡ 13 → get_or s 1 0 ≡ 10 → ending_length s ≡ 2
 unfolding begins
-last_ending [] h e = absurd (omega arith)
-last_ending (c ∷ []) h e = other_ending c [] e (and-false (is "\r" c))
-last_ending (c ∷ d ∷ l) h e = absurd (omega arith)
+ending_cr_lf [] h e g = absurd (omega arith)
+ending_cr_lf (c ∷ []) h e g = absurd (omega arith)
+ending_cr_lf (c ∷ d ∷ l) h e g = cr_lf_ending c (d ∷ l) (rw (eq-eqb c 13 e, eq-eqb d 10 g))
 
-pub two_ending : (s : List ℕ) → 1 < length s → (is "\r" (get_or s 0 0) && is "\n" (get_or s 1 0)) ≡ true → ending_length s ≡ 2
-unfolding begins
-two_ending [] h g = absurd (omega arith)
-two_ending (c ∷ []) h g = absurd (omega arith)
-two_ending (c ∷ d ∷ l) h g = cr_lf_ending c (d ∷ l) g
+pub ending_last : (s : List ℕ) → line_end (get_or s 0 0) ≡ true → length s < 2 → ending_length s ≡ 1
+unfolding begins line_end
+ending_last [] e h = absurd (false≢true e)
+ending_last (c ∷ []) e h = other_ending c [] e (and-false (is "\r" c))
+ending_last (c ∷ d ∷ l) e h = absurd (omega arith)
 
-pub one_ending : (s : List ℕ) → 1 < length s → line_end (get_or s 0 0) ≡ true → (is "\r" (get_or s 0 0) && is "\n" (get_or s 1 0)) ≡ false → ending_length s ≡ 1
-unfolding begins
-one_ending [] h e g = absurd (omega arith)
-one_ending (c ∷ []) h e g = absurd (omega arith)
-one_ending (c ∷ d ∷ l) h e g = other_ending c (d ∷ l) e g
+pub ending_no_cr : (s : List ℕ) → line_end (get_or s 0 0) ≡ true → (get_or s 0 0 ≡ 13 → ⊥) → ending_length s ≡ 1
+unfolding begins line_end
+ending_no_cr [] e g = absurd (false≢true e)
+ending_no_cr (c ∷ l) e g = other_ending c l e (rw (ne_eqb c 13 g))
+
+pub ending_no_lf : (s : List ℕ) → line_end (get_or s 0 0) ≡ true → (get_or s 1 0 ≡ 10 → ⊥) → ending_length s ≡ 1
+unfolding begins line_end
+ending_no_lf [] e g = absurd (false≢true e)
+ending_no_lf (c ∷ []) e g = ending_last (c ∷ []) e (omega arith)
+ending_no_lf (c ∷ d ∷ l) e g = other_ending c (d ∷ l) e (rw (ne_eqb d 10 g) (and-false (is "\r" c)))
 
 -- an octet closes its line where it is CR or LF and no LF follows it
 -- an ending has two octets at most, and behind the file's end there is none
@@ -125,17 +132,12 @@ module _ (n : LineNumber) (p : Place) (c : ℕ) (l : List ℕ) where
   unfolding lines_from
   behind_open e = rw (length_open c l e)
 
-pub leading_mark_short : (s : List ℕ) → length s < 3 → has_leading_mark s ≡ false
-unfolding has_leading_mark
-leading_mark_short [] h = refl
-leading_mark_short (a ∷ []) h = refl
-leading_mark_short (a ∷ b ∷ []) h = refl
-leading_mark_short (a ∷ b ∷ c ∷ l) h = absurd (omega arith)
+eqb_swap : (a b : ℕ) → eqb a b ≡ eqb b a
+eqb_swap a b = split (eqb b a) (λ e. rw e (eq-eqb a b (sym (eqb-true b a e)))) (λ e. rw e (ne_eqb a b (λ q. eqb-false b a e (sym q))))
 
-pub leading_mark_read : (s : List ℕ) → 3 ≤ length s
-    → has_leading_mark s ≡ (eqb (get_or s 0 0) 0xEF && eqb (get_or s 1 0) 0xBB && eqb (get_or s 2 0) 0xBF)
+pub leading_mark_starts : (s : List ℕ) → has_leading_mark s ≡ starts_with eqb s (0xEF ∷ 0xBB ∷ 0xBF ∷ [])
 unfolding has_leading_mark
-leading_mark_read [] h = absurd (omega arith)
-leading_mark_read (a ∷ []) h = absurd (omega arith)
-leading_mark_read (a ∷ b ∷ []) h = absurd (omega arith)
-leading_mark_read (a ∷ b ∷ c ∷ l) h = refl
+leading_mark_starts [] = refl
+leading_mark_starts (a ∷ []) = sym (and-false (eqb 0xEF a))
+leading_mark_starts (a ∷ b ∷ []) = sym (ap (λ (x : Bool). eqb 0xEF a && x) (and-false (eqb 0xBB b)) ∙ and-false (eqb 0xEF a))
+leading_mark_starts (a ∷ b ∷ c ∷ l) = rw (eqb_swap 0xEF a, eqb_swap 0xBB b, eqb_swap 0xBF c) (search rules)

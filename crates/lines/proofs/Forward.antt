@@ -1,16 +1,16 @@
 -- The lines of a file, from one to the next: where the line behind the one at a place begins. Assumes nothing.
-use Prim.Native.Nat.{ℕ, zero, suc, ◌+◌, ◌≤◌, ◌<◌}
+use Prim.Native.Nat.{ℕ, zero, suc, ◌+◌, ◌-◌, ◌≤◌, ◌<◌}
 use mathlib.Core.Path.{◌≡◌, refl, sym, ap, ◌∙◌}
 use mathlib.Core.Bool.{true}
 use mathlib.Core.List.{List, [], ◌∷◌}
 use native.Mathlib.Omega.{arith}
-use lib.ListN.{length, drop, get_or, length-drop, drop_of_length-le}
+use lib.ListN.{length, take, drop, get_or, length-drop, drop_of_length-le}
 use lib.Seq.{drop-drop, get_or-drop}
 use borrow.Author.Tests.{ne_eqb}
 use Rattle.lists.specs.Lists.{up_to, from}
 use Rattle.lists.proofs.Bools.{split}
 use Rattle.lists.proofs.Parts.{up_to_stop, up_to_on}
-use Rattle.lists.proofs.Scans.{up_to_fits, up_to_stops, drop_up_to, drop_one}
+use Rattle.lists.proofs.Scans.{up_to_fits, up_to_stops, drop_up_to, drop_one, rest_of}
 use Rattle.protocol.specs.declared.Place.{Place}
 use Rattle.protocol.specs.Octets.{line_end}
 use Rattle.protocol.specs.Lines.{place_at, place_after, line_text, ending_length, line_length}
@@ -23,9 +23,17 @@ module _ (s : List ℕ) (i : ℕ) (h : i < length s) where
   unfolding line_length ending_length line_end up_to from
   left_lf e = rw (drop_one s i 0 h, e)
 
-  pub left_cr : get_or s i 0 ≡ 13 → line_length (drop i s) ≡ ending_length (drop i s)
+  -- what is lent from a CR on begins with an ending, and the line ends with it
+  pub left_ends : get_or s i 0 ≡ 13 → line_end (get_or (take (length s - i) (drop i s)) 0 0) ≡ true
   unfolding line_end
-  left_cr e = rw (drop_one s i 0 h, e) (length_ending 13 (drop (i + 1) s) refl)
+  left_ends e = rw (rest_of i s, drop_one s i 0 h, e)
+
+  pub left_cr : get_or s i 0 ≡ 13 → ending_length (take (length s - i) (drop i s)) ≡ line_length (drop i s)
+  unfolding line_end
+  left_cr e = rw (rest_of i s, drop_one s i 0 h, e) (sym (length_ending 13 (drop (i + 1) s) refl))
+
+  pub left_fits : i + line_length (drop i s) ≤ length s
+  left_fits = omega (arith, line_fits (drop i s), length-drop i s)
 
   pub left_inner : (get_or s i 0 ≡ 10 → ⊥) → (get_or s i 0 ≡ 13 → ⊥) → line_length (drop i s) ≡ suc (line_length (drop (i + 1) s))
   unfolding line_end

@@ -2,7 +2,7 @@
 use Prim.Native.Nat.{ℕ, zero, suc, ◌+◌, ◌-◌, ◌*◌, ◌≤◌, ◌<◌}
 use mathlib.Core.Path.{◌≡◌, refl, sym, ap, ◌∙◌}
 use mathlib.Core.Bool.{Bool, true, false, false≢true}
-use mathlib.Core.List.{List, [], ◌∷◌, zip_with, zip}
+use mathlib.Core.List.{List, [], ◌∷◌}
 use native.Mathlib.Omega.{arith}
 use lib.ListN.{length, take, drop, length-drop}
 use lib.Seq.{drop-drop, drop-nil}
@@ -51,7 +51,7 @@ module _ {X : Type 0} (ask : List Line → X) (first : ℕ → Bool) (same : Una
   -- many
   passed : (k : ℕ) (n : LineNumber) (p : Place) (l : List ℕ) → any (opens first) (take k (pairs l)) ≡ false
       → ask (lines_behind n p l) ≡ ask (lines_behind (number_after n (endings (take k (pairs l)))) (place_after p k) (drop k l))
-  unfolding any total zip zip_with lines_from
+  unfolding any total lines_from
   passed zero n p l h = let q : n.number + 0 ≡ n.number = omega arith in let r : p.offset + 0 ≡ p.offset = omega arith in rw (q, r)
   passed (suc k) n p [] h = refl
   passed (suc k) n p (c ∷ []) h = rw (drop-nil {A = ℕ} k, none_behind n p c)
@@ -93,7 +93,7 @@ opening_closes c d h =
 module _ {X : Type 0} (ask : List Line → X) (same : Unasked agent_octet ask) where
   agents_behind : (n : LineNumber) (p : Place) (l : List ℕ) → 0 < length l → let k = agent_front (pairs l) + 1 in
       ask (lines_behind n p l) ≡ ask (lines_from (number_after n (endings (take k (pairs l)))) (place_after p k) 0 (drop k l))
-  unfolding up_to total zip zip_with begins lines_from
+  unfolding up_to total begins lines_from
   agents_behind n p [] i = absurd (omega arith)
   agents_behind n p (c ∷ []) i = ap ask (none_behind n p c)
   agents_behind n p (c ∷ d ∷ l) i =

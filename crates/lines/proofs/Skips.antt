@@ -1,13 +1,17 @@
 -- Quiet octets and the line endings among them: octet by octet, and from one block to the next. Assumes nothing.
-use Prim.Native.Nat.{ℕ, suc, ◌+◌, ◌-◌, ◌*◌, ◌≤◌, ◌<◌}
+use Prim.Native.Nat.{ℕ, suc, min, ◌+◌, ◌-◌, ◌*◌, ◌≤◌, ◌<◌}
 use mathlib.Core.Path.{◌≡◌, refl, sym, ap, ap₂, ◌∙◌}
 use mathlib.Core.Bool.{Bool, true, false, ◌&&◌, ◌||◌, not, false≢true, true≢false}
-use mathlib.Core.List.{List, [], ◌∷◌, zip_with, zip}
+use mathlib.Core.List.{List, [], ◌∷◌}
+use Rattle.std.specs.Prelude.{Option, Some, None, MatchOption, cond}
+use Rattle.std.specs.Ordering.{ord_min, nat_cmp}
+use Rattle.std.specs.List.{position, position_or_len, zip}
+use Rattle.std.proofs.lemmas.List.Recursion.{is_position_or_len}
 use native.Mathlib.Omega.{arith}
 use lib.Bits.{bit_or}
 use lib.Dec.{eqb, ltb}
-use lib.ListN.{length, take, drop, get_or, length-take, length-drop, drop_of_length-le}
-use lib.Seq.{drop-drop}
+use lib.ListN.{length, take, drop, get_or, length-take, length-drop}
+use lib.Seq.{drop-drop, take_all}
 use borrow.Author.Tests.{not-true, not-false, ltb-true, ltb-false, lt-ltb, le-ltb}
 use Rattle.lists.specs.Choice.{one_if}
 use Rattle.lists.specs.Lists.{any, up_to, total, numbers_from}
@@ -24,7 +28,7 @@ use Rattle.protocol.specs.Lines.{line_number, place_at, number_after, place_afte
 use Rattle.words.specs.Words.{among}
 use Rattle.text.proofs.Seeks.{end_low}
 use Rattle.lines.specs.Skips.{agent_octet, entry_octet, pairs, between, opens, quiet, closes, endings, agent_front, blocks_at, PassedOver, PassedFrom}
-use Rattle.lines.proofs.Pairs.{zip_next, pairs_length, pairs_part, any_parts, total_parts}
+use Rattle.lines.proofs.Pairs.{pairs_length, pairs_part, zip_next, any_parts, total_parts}
 
 -- without a branch: a letter with the bit 32 set is the lower-case one
 pub agent_bits : (x : ℕ) → x < 256 → (eqb (bit_or x 32) 117 || eqb x 32 || eqb x 9) ≡ agent_octet x
@@ -35,22 +39,6 @@ pub entry_bits : (x : ℕ) → x < 256 → (eqb (bit_or x 32) 97 || eqb (bit_or 
 unfolding numbers_from entry_octet agent_octet blank lower_case upper
 entry_bits = every_octet_lem (λ x. eqb (bit_or x 32) 97 || eqb (bit_or x 32) 100 || agent_octet x) entry_octet refl
 
--- one turn of a loop over two texts
-module _ (l m : List ℕ) (i : ℕ) (h : i < length l) (k : i < length m) where
-  pub opens_next : (first : ℕ → Bool)
-      → any (opens first) (drop i (zip l m)) ≡ (line_end (get_or l i 0) && first (get_or m i 0)) || any (opens first) (drop (i + 1) (zip l m))
-  unfolding any
-  opens_next first = rw (zip_next l m i h k)
-
-  pub endings_next : endings (drop i (zip l m)) ≡ one_if (closes (get_or l i 0) (is "\n" (get_or m i 0))) + endings (drop (i + 1) (zip l m))
-  unfolding total
-  endings_next = rw (zip_next l m i h k)
-
--- and its end
-pub endings_end : (l : List (ℕ × ℕ)) (i : ℕ) → length l ≤ i → endings (drop i l) ≡ 0
-unfolding total
-endings_end l i h = rw (drop_of_length-le l h)
-
 -- one turn of a search
 module _ {x : ℕ × ℕ} {l rest : List (ℕ × ℕ)} (e : l ≡ x ∷ rest) where
   pub front_here : opens agent_octet x ≡ true → agent_front l ≡ 0
@@ -59,21 +47,38 @@ module _ {x : ℕ × ℕ} {l rest : List (ℕ × ℕ)} (e : l ≡ x ∷ rest) wh
   pub front_on : opens agent_octet x ≡ false → agent_front l ≡ suc (agent_front rest)
   front_on h = rw (e, up_to_on (opens agent_octet) x rest h)
 
--- in a part that is lent, and behind it
-module _ (s : List ℕ) (i k n m : ℕ) (e : n ≡ k) (g : m ≡ k) where
-  abbrev lent : List (ℕ × ℕ)
-  lent = zip (take n (drop i s)) (take m (drop (i + 1) s))
+-- the least of two numbers, as the code has it
+pub least : (a b : ℕ) → ord_min nat_cmp a b ≡ min a b
+least a b =
+    split (ltb b a) (λ e. rw e (omega (arith, ltb-true b a e)))
+    (λ e. rw e (split (eqb b a) (λ f. rw f (omega (arith, ltb-false b a e))) (λ f. rw f (omega (arith, ltb-false b a e)))))
 
-  pub front_inside : quiet agent_octet lent ≡ false → agent_front lent ≡ agent_front (drop i (pairs s))
-  front_inside h =
-      let part = pairs_part s i k n m e g in
-      rw part (up_to_within (opens agent_octet) k (drop i (pairs s)) (not-false _ (rw part at h)))
+-- what a search by position finds
+module _ (l : List (ℕ × ℕ)) where
+  front_is : position_or_len (opens agent_octet) l ≡ agent_front l
+  unfolding up_to
+  front_is = sym (is_position_or_len (λ m. length (up_to (opens agent_octet) m)) (opens agent_octet) refl step l)
+    where
+      step : (x : ℕ × ℕ) (m : List (ℕ × ℕ)) → length (up_to (opens agent_octet) (x ∷ m)) ≡ cond (opens agent_octet x) 0 (1 + length (up_to (opens agent_octet) m))
+      step x m = split (opens agent_octet x) (λ e. rw (up_to_stop (opens agent_octet) x m e, e)) (λ e. rw (up_to_on (opens agent_octet) x m e, e) (omega arith))
 
-  pub front_past : i + k < length s → quiet agent_octet lent ≡ true → agent_front (drop i (pairs s)) ≡ k + agent_front (drop (i + k) (pairs s))
-  front_past f h =
-      let rest : List (ℕ × ℕ) = drop i (pairs s) in
-      let fits : k ≤ length rest = omega (arith, length-drop i (pairs s), pairs_length s) in
-      rw (← drop-drop k i (pairs s)) (up_to_over (opens agent_octet) k rest fits (not-true _ (rw (pairs_part s i k n m e g) at h)))
+  pub front_found : (i : ℕ) → i ≡ agent_front l → i < length l → Some i ≡ position (opens agent_octet) l
+  front_found i e h = let k : agent_front l < length l = omega arith in rw (front_is, lt-ltb _ _ k, e)
+
+  pub front_missed : length l ≤ agent_front l → None ≡ position (opens agent_octet) l
+  front_missed h = rw (front_is, le-ltb _ _ h)
+
+  pub front_sort : MatchOption (position (opens agent_octet) l) (agent_front l ≡ length l) (λ i. (i ≡ agent_front l) × (i < length l))
+  front_sort =
+      split (ltb (agent_front l) (length l)) (λ e. rw (front_is, e) (refl, ltb-true _ _ e))
+      (λ e. rw (front_is, e) (omega (arith, ltb-false _ _ e, up_to_fits (opens agent_octet) l)))
+
+pub front_at : (l : List (ℕ × ℕ)) (r : Option ℕ) → r ≡ position (opens agent_octet) l
+    → MatchOption r (agent_front l ≡ length l) (λ i. (i ≡ agent_front l) × (i < length l))
+front_at l r e = rw e (front_sort l)
+
+pub front_quiet : (l : List (ℕ × ℕ)) → quiet agent_octet l ≡ true → agent_front l ≡ length l
+front_quiet l h = omega (arith, ltb-false _ _ (any_found (opens agent_octet) l ∙ not-true _ h), up_to_fits (opens agent_octet) l)
 
 -- as far as a part goes, and behind it
 module _ (s : List ℕ) (i k : ℕ) (f : i + k < length s) (part : List (ℕ × ℕ)) (e : part ≡ take k (drop i (pairs s))) where
@@ -94,9 +99,21 @@ module _ (s : List ℕ) (i k : ℕ) (f : i + k < length s) (part : List (ℕ × 
       let fits : k ≤ length rest = omega (arith, length-drop i (pairs s), pairs_length s) in
       rw (← drop-drop k i (pairs s)) (up_to_over (opens agent_octet) k rest fits (sym holds ∙ le-ltb _ k h))
 
+  -- as a search finds it there
+  pub front_searched : (r : Option ℕ) → r ≡ position (opens agent_octet) part
+      → MatchOption r (agent_front rest ≡ k + agent_front (drop (i + k) (pairs s))) (λ j. (j ≡ agent_front rest) × (j < k))
+  front_searched None h = front_behind (omega (arith, front_at part None h, ap length e, size))
+  front_searched (Some j) h =
+      let found = front_at part (Some j) h in
+      let inside : j < k = omega (arith, found, ap length e, size) in
+      (omega (arith, found, front_near (omega (arith, found))), inside)
+
+  pub quiet_behind : quiet agent_octet part ≡ true → agent_front rest ≡ k + agent_front (drop (i + k) (pairs s))
+  quiet_behind h = front_behind (omega (arith, front_quiet part h, ap length e, size))
+
 -- no line ends in front of the first octet from LF to CR
 pub front_sought : (s : List ℕ) (i : ℕ) → i ≡ length (up_to (among 10 13 true) s) → i < length s → agent_front (pairs s) ≡ i + agent_front (drop i (pairs s))
-unfolding up_to zip zip_with
+unfolding up_to
 front_sought [] i e h = absurd (omega arith)
 front_sought (x ∷ []) i e h =
     split (among 10 13 true x) (λ a. let none : i ≡ 0 = rw a at e in rw none (omega arith))
@@ -145,6 +162,18 @@ endings_few (x ∷ l) = omega (arith, endings_few l, one_at_most (closes x.0 (is
 pub endings_fit : (n : ℕ) (l : List (ℕ × ℕ)) → endings (take n l) ≤ n
 endings_fit n l = omega (arith, endings_few (take n l), length-take n l)
 
+pub endings_left : (n : ℕ) (l : List (ℕ × ℕ)) → endings (drop n l) ≤ length l - n
+endings_left n l = omega (arith, endings_few (drop n l), length-drop n l)
+
+-- up to an octet, and from there on
+pub endings_cut : (n : ℕ) (l : List (ℕ × ℕ)) → endings l ≡ endings (take n l) + endings (drop n l)
+endings_cut n l =
+    rw (take_all (n + length l) l (omega arith), take_all (length l) (drop n l) (omega (arith, length-drop n l))) at (total_parts (λ (x : ℕ × ℕ). one_if (closes x.0 (is "\n" x.1))) n (length l) l)
+
+-- and a block more
+pub endings_block : (n k : ℕ) (l : List (ℕ × ℕ)) → k ≡ n + 64 → endings (take k l) ≡ endings (take n l) + endings (take 64 (drop n l))
+endings_block n k l e = rw e (total_parts _ n 64 l)
+
 -- from one place up to another
 module _ (s : List ℕ) where
   pub endings_between : (p q r : Place) → p.offset ≤ q.offset → q.offset ≤ r.offset
@@ -186,6 +215,9 @@ module _ (s : List ℕ) (p : Position) where
         still = refl;
         number = ap line_number (omega arith);
       }
+
+  pub none_passed : length s < p.place.offset + 65 → PassedFrom s p p
+  none_passed h = record { over = over_none; ended = λ k. absurd (omega arith) }
 
   -- and then one quiet block more
   pub over_more : (q : Position) → PassedOver s p q → q.place.offset + 65 ≤ length s → quiet entry_octet (blocks_at s q.place 1) ≡ true
@@ -232,3 +264,30 @@ module _ (s : List ℕ) (p : Position) where
       ap₂ (λ (n : LineNumber) (x : Place). record { number = n; place = x })
       (a.over.number ∙ ap (λ (k : ℕ). number_after p.number (endings (blocks_at s p.place k))) e ∙ sym b.over.number)
       (a.over.place ∙ ap (λ (k : ℕ). place_after p.place (64 * k)) e ∙ sym b.over.place)
+
+-- one turn over two texts, whatever the second octets are asked for
+module _ (l m : List ℕ) (i : ℕ) (h : i < length l) (k : i < length m) where
+  pub opens_next : (first : ℕ → Bool)
+      → any (opens first) (drop i (zip l m)) ≡ (line_end (get_or l i 0) && first (get_or m i 0)) || any (opens first) (drop (i + 1) (zip l m))
+  unfolding any
+  opens_next first = rw (zip_next l m i h k)
+
+  pub endings_next : endings (drop i (zip l m)) ≡ one_if (closes (get_or l i 0) (is "\n" (get_or m i 0))) + endings (drop (i + 1) (zip l m))
+  unfolding total
+  endings_next = rw (zip_next l m i h k)
+
+-- in a part that is lent, and behind it
+module _ (s : List ℕ) (i k n m : ℕ) (e : n ≡ k) (g : m ≡ k) where
+  abbrev lent : List (ℕ × ℕ)
+  lent = zip (take n (drop i s)) (take m (drop (i + 1) s))
+
+  pub front_inside : quiet agent_octet lent ≡ false → agent_front lent ≡ agent_front (drop i (pairs s))
+  front_inside h =
+      let part = pairs_part s i k n m e g in
+      rw part (up_to_within (opens agent_octet) k (drop i (pairs s)) (not-false _ (rw part at h)))
+
+  pub front_past : i + k < length s → quiet agent_octet lent ≡ true → agent_front (drop i (pairs s)) ≡ k + agent_front (drop (i + k) (pairs s))
+  front_past f h =
+      let rest : List (ℕ × ℕ) = drop i (pairs s) in
+      let fits : k ≤ length rest = omega (arith, length-drop i (pairs s), pairs_length s) in
+      rw (← drop-drop k i (pairs s)) (up_to_over (opens agent_octet) k rest fits (not-true _ (rw (pairs_part s i k n m e g) at h)))

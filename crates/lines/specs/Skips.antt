@@ -1,13 +1,12 @@
 -- Octets in which no agent or rule line begins, and the lines that they close. Assumes nothing.
-use Rattle.std.specs.Prelude.{ℕ, ◌+◌, ◌-◌, ◌*◌, ◌≤◌, ◌≡◌, Bool, true, false, ◌&&◌, ◌||◌, not, length, take, drop}
-use mathlib.Core.List.{List, zip}
+use Rattle.std.specs.Prelude.{ℕ, ◌+◌, ◌-◌, ◌*◌, ◌≤◌, ◌≡◌, Bool, true, false, ◌&&◌, ◌||◌, not, List, length, take, drop}
+use Rattle.std.specs.List.{zip}
 use Rattle.lists.specs.Choice.{one_if}
 use Rattle.lists.specs.Lists.{any, up_to, total}
 use Rattle.protocol.specs.declared.Place.{Place}
 use Rattle.protocol.specs.declared.Position.{Position}
 use Rattle.protocol.specs.Octets.{is, blank, line_end, lower_case}
 use Rattle.protocol.specs.Lines.{number_after, place_after}
-use Rattle.lines.specs.declared.skip.Seen.{Seen}
 
 -- an agent line may begin with the octet
 unfoldable pub agent_octet : ℕ → Bool
@@ -40,10 +39,6 @@ closes c lf = is "\n" c || (is "\r" c && not lf)
 -- the lines that the octets close
 abbrev pub endings : List (ℕ × ℕ) → ℕ
 endings l = total (λ (x : ℕ × ℕ). one_if (closes x.0 (is "\n" x.1))) l
-
--- both, of some octets
-abbrev pub glanced : List (ℕ × ℕ) → Seen
-glanced l = record { quiet = quiet entry_octet l; lines = endings l }
 
 -- the octets in front of the first behind which an agent line may begin: all of them where there is none
 abbrev pub agent_front : List (ℕ × ℕ) → ℕ

@@ -1,20 +1,23 @@
 // Passing over octets in which no agent or rule line begins.
 
-ghost use Rattle.std.specs.Prelude.{◌≡◌, ◌+◌, ◌≤◌, ◌<◌, length};
-ghost use mathlib.Core.List.{zip};
+ghost use Rattle.std.specs.Prelude.{◌≡◌, ◌+◌, ◌≤◌, ◌<◌, true, false, length, IfSome, MatchOption};
+ghost use Rattle.std.specs.List.{zip, position};
 ghost use Rattle.protocol.specs.Octets.{is, line_end};
-ghost use Rattle.lines.specs.Skips.{agent_octet, entry_octet, pairs, quiet, closes, endings, between, agent_front, glanced, next_agent, PassedFrom};
+ghost use Rattle.lines.specs.Skips.{agent_octet, entry_octet, pairs, opens, quiet, closes, endings, between, agent_front, next_agent, PassedFrom};
 
 use protocol::{FIELDS, LineNumber, Place, Position};
 
-// An agent line may begin with the octet. No branch, so that the compiler can look at many octets at a time.
+// An agent line may begin with the octet. By `|` and not by `matches!`, so that the compiler can look at many octets at a time: with `matches!` it
+// looks at one.
+#[tactic(auto, using(crate::proofs::Skips::agent_bits))]
 fn may_begin(x: u8) -> bool
     ensures { result ≡ agent_octet x }
 {
     (x | 32 == FIELDS[0][0]) | (x == b' ') | (x == b'\t')
 }
 
-// A line ends with the octet, or is ended by it and the one behind it.
+// A line ends with the octet, or is ended by it and the one behind it: by `|`, likewise.
+#[tactic(auto, unfolding(protocol::specs::Octets::line_end))]
 fn ends_line(x: u8) -> bool
     ensures { result ≡ line_end x }
 {
@@ -22,6 +25,7 @@ fn ends_line(x: u8) -> bool
 }
 
 // An agent or rule line may begin with the octet, likewise.
+#[tactic(auto, using(crate::proofs::Skips::entry_bits))]
 fn may_begin_entry(x: u8) -> bool
     ensures { result ≡ entry_octet x }
 {
@@ -35,70 +39,69 @@ fn closes_line(x: u8, y: u8) -> bool
     (x == b'\n') | ((x == b'\r') & (y != b'\n'))
 }
 
-// No agent line begins behind any of the octets; `behind` holds the octet behind each of them. All are looked at, so that the compiler can look
-// at many at a time, and in two texts, so that it needn't put together one from the other.
-fn is_quiet(b: &[u8], behind: &[u8]) -> bool
-    requires { length behind.now ≡ length b.now }
-    ensures { result ≡ quiet agent_octet (zip b.now behind.now) }
+// An agent line may begin between the octet x and the octet y behind it.
+fn opens_agent(x: u8, y: u8) -> bool
+    ensures { result ≡ opens agent_octet (x, y) }
 {
-    let mut found = false;
-    let mut i = 0;
-    while i < b.len() {
-        found = found | (ends_line(b[i]) & may_begin(behind[i]));
-        i += 1;
-    }
-    !found
+    ends_line(x) & may_begin(y)
 }
 
-// The octets of 64 in front of the first behind which an agent line may begin; 64, if there is none.
-fn front_agent(b: &[u8], behind: &[u8]) -> usize
-    requires { (length b.now ≡ 64) × (length behind.now ≡ 64) }
-    ensures { result ≡ agent_front (zip b.now behind.now) }
+// No agent line begins behind any of the octets; `behind` holds the octet behind each of them. By `fold` and not by `any`: all are looked at, so
+// that the compiler can look at many at a time, and in two texts, so that it needn't put together one from the other.
+fn is_quiet(b: &[u8], behind: &[u8]) -> bool
+    ensures { result ≡ quiet agent_octet (zip b.now behind.now) }
 {
-    let mut first = 64u8;
-    let mut i = 0u8;
-    while i < 64 {
-        let at = i as usize;
-        let here = if ends_line(b[at]) & may_begin(behind[at]) {
+    !b.iter()
+        .zip(behind)
+        .fold(false, |found, (x, y)| found | opens_agent(*x, *y))
+}
+
+// Which of 64 octets is the first behind which an agent line may begin. By the least index and not by `position`, likewise.
+fn front_agent(b: &[u8], behind: &[u8]) -> Option<usize>
+    requires block { length b.now ≡ 64 }
+    requires block_behind { length behind.now ≡ 64 }
+    ensures { result ≡ position (opens agent_octet) (zip b.now behind.now) }
+{
+    let mut first = 64;
+    for i in 0..64u8 {
+        let at = usize::from(i);
+        let here = if opens_agent(b[at], behind[at]) {
             i
         } else {
             64
         };
-        if here < first {
-            first = here;
-        }
-        i += 1;
+        first = first.min(here);
     }
-    first as usize
+    if first < 64 {
+        Some(usize::from(first))
+    } else {
+        None
+    }
 }
 
-// Where in the octets the first line begins that may be an agent line, one by one; their end, if there is none.
-fn near_agent(s: &[u8]) -> usize
-    requires { 1 ≤ length s.now }
-    ensures { result ≡ agent_front (pairs s.now) + 1 }
+// The same of any octets, one by one.
+fn near_agent(b: &[u8], behind: &[u8]) -> Option<usize>
+    ensures { result ≡ position (opens agent_octet) (zip b.now behind.now) }
 {
-    let mut i = 0;
-    while 1 < s.len() - i {
-        if ends_line(s[i]) {
-            if may_begin(s[i + 1]) {
-                return i + 1;
-            }
-        }
-        i += 1;
-    }
-    s.len()
+    b.iter()
+        .zip(behind)
+        .position(|(x, y)| ends_line(*x) && may_begin(*y))
 }
 
-// The same at a text's end: most texts end without an agent line, so all octets are looked at first.
+// Where in the octets the first line begins that may be an agent line; their end, if there is none. Most texts end without an agent line, so all
+// octets are looked at first.
 fn tail_agent(s: &[u8]) -> usize
     requires { 1 ≤ length s.now }
     ensures { result ≡ agent_front (pairs s.now) + 1 }
 {
-    let last = s.len() - 1;
-    if is_quiet(&s[..last], &s[1..]) {
+    let behind = &s[1..];
+    if is_quiet(s, behind) {
         return s.len();
     }
-    near_agent(s)
+    match near_agent(s, behind) {
+        Some(i) => i + 1,
+        None => s.len(),
+    }
 }
 
 // As `next_agent`, block by block: for a place from which the next such line is mostly far.
@@ -106,35 +109,32 @@ pub fn far_agent(s: &[u8], from: Place) -> Place
     requires { from.offset < length s.now }
     ensures { result ≡ next_agent s.now from }
 {
-    let mut i = from.offset;
-    while 65 <= s.len() - i {
-        let b = &s[i..i + 64];
-        let behind = &s[i + 1..i + 65];
+    let mut at = from.offset;
+    let (blocks, _) = s[at..].as_chunks::<64>();
+    let (behinds, _) = s[at + 1..].as_chunks::<64>();
+    for (b, behind) in blocks.iter().zip(behinds) {
         if !is_quiet(b, behind) {
-            let found = i + front_agent(b, behind) + 1;
-            return Place { offset: found };
+            if let Some(i) = front_agent(b, behind) {
+                return Place { offset: at + i + 1 };
+            }
         }
-        i += 64;
+        at += 64;
     }
-    let found = i + tail_agent(&s[i..]);
-    Place { offset: found }
+    Place {
+        offset: at + tail_agent(&s[at..]),
+    }
 }
 
-// Where the line behind the first one begins, if it may be an agent line; the end of the octets, if it isn't or doesn't begin in them.
-fn behind_line(s: &[u8]) -> usize
-    ensures { (result ≤ length s.now) × (result < length s.now → result ≡ agent_front (pairs s.now) + 1) }
+// Which octet ends the first line, if the line behind it begins in the octets and may be an agent line.
+fn behind_line(s: &[u8]) -> Option<usize>
+    ensures { IfSome result (λ i. (i + 1 < length s.now) × (i ≡ agent_front (pairs s.now))) }
 {
     let end = text::seek(s, Place { offset: 0 }, b'\n', b'\r', true);
-    let i = end.offset;
-    if s.len() - i < 2 {
-        return s.len();
+    let rest = &s[end.offset..];
+    match rest {
+        [x, y, ..] if ends_line(*x) && may_begin(*y) => Some(end.offset),
+        _ => None,
     }
-    if ends_line(s[i]) {
-        if may_begin(s[i + 1]) {
-            return i + 1;
-        }
-    }
-    s.len()
 }
 
 // Where the next line begins that may be an agent line; the text's end, if there is none. Before any block, the next five octets are looked at one
@@ -146,120 +146,94 @@ pub fn next_agent(s: &[u8], from: Place) -> Place
 {
     let start = from.offset;
     if s.len() - start < 70 {
-        let found = start + tail_agent(&s[start..]);
-        return Place { offset: found };
+        return Place {
+            offset: start + tail_agent(&s[start..]),
+        };
     }
-    let few = start + 6;
-    let near = near_agent(&s[start..few]);
-    if near < 6 {
-        let found = start + near;
-        return Place { offset: found };
+    if let Some(i) = near_agent(&s[start..start + 5], &s[start + 1..start + 6]) {
+        return Place {
+            offset: start + i + 1,
+        };
     }
-    let line = start + 33;
-    let behind = behind_line(&s[start..line]);
-    if behind < 33 {
-        let found = start + behind;
-        return Place { offset: found };
+    if let Some(i) = behind_line(&s[start..start + 33]) {
+        return Place {
+            offset: start + i + 1,
+        };
     }
     let on = start + 5;
-    let front = front_agent(&s[on..on + 64], &s[on + 1..on + 65]);
-    if front < 64 {
-        let found = on + front + 1;
-        return Place { offset: found };
+    if let Some(i) = front_agent(&s[on..on + 64], &s[on + 1..on + 65]) {
+        return Place { offset: on + i + 1 };
     }
-    let far = on + 64;
-    far_agent(s, Place { offset: far })
+    far_agent(s, Place { offset: on + 64 })
 }
 
-// What 64 octets hold: whether no agent or rule line begins behind them, and the line endings that they close.
-#[derive(Clone, Copy)]
-struct Seen {
-    quiet: bool,
-    lines: usize,
-}
-
-// Both are looked for at once, as in `is_quiet`.
-fn glance(b: &[u8], behind: &[u8]) -> Seen
-    requires { (length b.now ≡ 64) × (length behind.now ≡ 64) }
-    ensures { result ≡ glanced (zip b.now behind.now) }
+// The line endings that 64 octets close, if no agent or rule line begins behind them. Both are looked for in one pass, as in `is_quiet`: that takes
+// fewer instructions than `few_endings` behind another `is_quiet`.
+#[tactic(auto, unfolding(lists::specs::Lists::total, lists::specs::Lists::any))]
+fn glance(b: &[u8; 64], behind: &[u8; 64]) -> Option<usize>
+    ensures { MatchOption result (quiet entry_octet (zip b.now behind.now) ≡ false) (λ n. (quiet entry_octet (zip b.now behind.now) ≡ true) × (n ≡ endings (zip b.now behind.now))) }
 {
-    let mut found = 0u8;
+    let mut found = false;
     let mut n = 0u8;
-    let mut i = 0;
-    while i < 64 {
-        let x = b[i];
-        let y = behind[i];
-        let here = if ends_line(x) & may_begin_entry(y) {
-            1u8
-        } else {
-            0u8
-        };
-        found = found | here;
-        let ends = if closes_line(x, y) { 1u8 } else { 0u8 };
-        n += ends;
-        i += 1;
+    for (x, y) in b.iter().zip(behind) {
+        found |= ends_line(*x) & may_begin_entry(*y);
+        n += u8::from(closes_line(*x, *y));
     }
-    Seen {
-        quiet: found == 0,
-        lines: n as usize,
-    }
+    if found { None } else { Some(usize::from(n)) }
 }
 
 // Passes over whole blocks of 64 octets, as long as no agent or rule line begins behind these, and counts the lines that they close.
+#[tactic(auto, using(crate::proofs::Skips::none_passed))]
 pub fn pass(s: &[u8], at: Position) -> Position
-    requires { (at.place.offset ≤ length s.now) × (at.number.number ≤ at.place.offset + 1) }
+    requires inside { at.place.offset ≤ length s.now }
+    requires few_lines { at.number.number ≤ at.place.offset + 1 }
     ensures { PassedFrom s.now at result }
 {
-    if s.len() < 65 {
+    let start = at.place.offset;
+    if s.len() - start < 65 {
         return at;
     }
-    let last = s.len() - 65;
-    let mut i = at.place.offset;
+    let (blocks, _) = s[start..].as_chunks::<64>();
+    let (behinds, _) = s[start + 1..].as_chunks::<64>();
     let mut number = at.number.number;
-    while i <= last {
-        let g = glance(&s[i..i + 64], &s[i + 1..i + 65]);
-        if !g.quiet {
+    let mut offset = start;
+    for (b, behind) in blocks.iter().zip(behinds) {
+        let Some(lines) = glance(b, behind) else {
             break;
-        }
-        number += g.lines;
-        i += 64;
+        };
+        number += lines;
+        offset += 64;
     }
     Position {
         number: LineNumber { number },
-        place: Place { offset: i },
+        place: Place { offset },
     }
 }
 
-// The line endings that up to 64 octets close, as in `glance`.
+// The line endings that up to 64 octets close. In a `u8` and not by `count`, so that the compiler can look at many at a time.
+#[tactic(auto, unfolding(lists::specs::Lists::total))]
 fn few_endings(b: &[u8], behind: &[u8]) -> usize
-    requires { (length b.now ≤ 64) × (length behind.now ≡ length b.now) }
+    requires few { length b.now ≤ 64 }
     ensures { result ≡ endings (zip b.now behind.now) }
 {
     let mut n = 0u8;
-    let mut i = 0;
-    while i < b.len() {
-        let ends = if closes_line(b[i], behind[i]) {
-            1u8
-        } else {
-            0u8
-        };
-        n += ends;
-        i += 1;
+    for (x, y) in b.iter().zip(behind) {
+        n += u8::from(closes_line(*x, *y));
     }
-    n as usize
+    usize::from(n)
 }
 
 // The line endings that the octets from one place up to another close.
 pub fn count_endings(s: &[u8], from: Place, to: Place) -> usize
-    requires { (from.offset ≤ to.offset) × (to.offset < length s.now) }
+    requires forward { from.offset ≤ to.offset }
+    requires inside { to.offset < length s.now }
     ensures { result ≡ endings (between s.now from to) }
 {
-    let end = to.offset;
-    let mut i = from.offset;
-    let mut n = 0;
-    while 64 <= end - i {
-        n += few_endings(&s[i..i + 64], &s[i + 1..i + 65]);
-        i += 64;
+    let (blocks, rest) = s[from.offset..to.offset].as_chunks::<64>();
+    let (behinds, rest_behind) = s[from.offset + 1..to.offset + 1].as_chunks::<64>();
+    let mut n = few_endings(rest, rest_behind);
+    for (b, behind) in blocks.iter().zip(behinds) {
+        n += few_endings(b, behind);
     }
-    n + few_endings(&s[i..end], &s[i + 1..end + 1])
+    n
 }

@@ -1,17 +1,15 @@
 -- The ends of a list of paths: those that are left tell of the whole, and they lie in the joined paths where they are good. Assumes nothing.
-use Prim.Native.Nat.{ℕ, zero, suc, ◌+◌, ◌-◌, ◌≤◌, ◌<◌}
+use Prim.Native.Nat.{ℕ, zero, suc, ◌+◌, ◌≤◌, ◌<◌}
 use mathlib.Core.Path.{◌≡◌}
 use mathlib.Core.Bool.{true, false}
 use mathlib.Core.List.{List, [], ◌∷◌}
 use native.Mathlib.Omega.{arith}
-use native.Mathlib.Numerals.{add-one}
-use lib.ListN.{length, take, drop, get_or, drop_of_length-le}
+use lib.ListN.{length, drop, get_or, drop_of_length-le}
 use borrow.Author.Tests.{lt-ltb, le-ltb}
 use Rattle.lists.proofs.Scans.{drop_one}
-use Rattle.protocol.specs.Text.{octets_at}
 use Rattle.protocol.specs.Refusals.{decrease, last_end}
 use Rattle.protocol.proofs.BatchAnswer.{rising, last_most}
-use Rattle.listing.specs.Listing.{GoodEnds, start_at, path_at}
+use Rattle.listing.specs.Listing.{GoodEnds, start_at}
 
 -- the ends from the index i on, behind the end `last`
 module _ (ends : List ℕ) (i last : ℕ) where
@@ -44,14 +42,9 @@ inside_from e (f ∷ ends) h zero l = let (m, r) = rising e f ends h in (m, last
 inside_from e (f ∷ ends) h (suc j) l = inside_from f ends (rising e f ends h).1 j (omega arith)
 
 -- each path stands in the joined ones
-pub ends_inside : (paths ends : List ℕ) → GoodEnds paths ends → (j : ℕ) → j < length ends → (start_at ends j ≤ get_or ends j 0) × (get_or ends j 0 ≤ length paths)
-ends_inside paths ends g j h = let (l, m) = inside_from 0 ends g.0 j h in (l, omega (arith, m, g.1))
+module _ (paths ends : List ℕ) (g : GoodEnds paths ends) (j : ℕ) (h : j < length ends) where
+  pub path_begins : start_at ends j ≤ get_or ends j 0
+  path_begins = (inside_from 0 ends g.0 j h).0
 
--- a path begins where the one in front of it ends
-pub start_next : (ends : List ℕ) (j : ℕ) → start_at ends (j + 1) ≡ get_or ends j 0
-start_next ends j = rw add-one
-
--- the path, as it is read
-pub path_read : (paths ends : List ℕ) (start j : ℕ) → start ≡ start_at ends j → take (get_or ends j 0 - start) (drop start paths) ≡ path_at paths ends j
-unfolding octets_at
-path_read paths ends start j e = rw e
+  pub path_stops : get_or ends j 0 ≤ length paths
+  path_stops = omega (arith, (inside_from 0 ends g.0 j h).1, g.1)

@@ -1,4 +1,4 @@
 pub mod Ends
-mod Finishing
-mod Refusing
+pub mod Finishing
+pub mod Refusing
 pub mod Tails

@@ -4,9 +4,16 @@ use mathlib.Core.Path.{◌≡◌, ◌∙◌}
 use mathlib.Core.Bool.{true, false}
 use mathlib.Core.List.{List, ◌∷◌}
 use lib.ListN.{length}
-use Rattle.protocol.specs.Refusals.{Row, unknown_dialect, too_long, bad_name, refusal}
+use Rattle.protocol.specs.declared.Dialect.{Dialect}
+use Rattle.protocol.specs.Refusals.{Row, dialect_number, dialect_of, unknown_dialect, too_long, bad_name, refusal}
 use Rattle.protocol.proofs.Refused.{refusal_here, refusal_on, known_dialect}
 use Rattle.protocol.proofs.Limits.{too_long_lem, not_too_long}
+
+-- a dialect is that of its number
+pub known_number : (d : Dialect) (n : ℕ) → dialect_number d ≡ n → d ≡ dialect_of n
+unfolding dialect_of
+known_number Dialect.Rfc9309 n e = rw (← e)
+known_number Dialect.Draft1996 n e = rw (← e)
 
 module _ (n : ℕ) (file name : List ℕ) (rows : List Row) where
   pub long_file : n ≤ 1 → 512_000 < length file → refusal (unknown_dialect n ∷ too_long file ∷ bad_name name ∷ rows) ≡ 1

@@ -3,14 +3,15 @@ use Prim.Native.Nat.{ℕ, ◌+◌, ◌-◌, ◌≤◌, ◌<◌}
 use mathlib.Core.Path.{◌≡◌, refl, sym, ap, ap₂, ◌∙◌}
 use mathlib.Core.List.{List, ◌++◌, map}
 use native.Mathlib.Omega.{arith}
-use lib.Dec.{eqb}
 use lib.ListN.{length, take, drop, get_or, set, length-set, length-map, take-append-drop}
-use lib.Seq.{drop-drop, drop-set-lt, get_or-set_same, get_or-set_other, get_or-take, length-take-le, ext_get_or}
+use lib.Dec.{eqb}
 use borrow.Author.Tests.{eqb-true, eqb-false}
 use Rattle.lists.proofs.Bools.{split}
+use lib.Seq.{get_or-set_same, drop-drop, drop-set-lt, get_or-set_other, get_or-take, length-take-le, ext_get_or}
 use Rattle.lists.proofs.Scans.{map_at}
 use Rattle.protocol.specs.Answers.{at_front}
-use Rattle.listing.specs.Listing.{Tail, Cleared}
+use Rattle.listing.specs.declared.Answers.{Answers}
+use Rattle.listing.specs.Memory.{Same, Tail, Cleared}
 
 pub tail_refl : (n : ℕ) (a : List ℕ) → Tail n a a
 tail_refl n a = record { same = refl; stays = refl }
@@ -31,6 +32,10 @@ module _ {n : ℕ} {a b : List ℕ} where
         same = t.same;
         stays = rw e at (sym (drop-drop (m - n) n b) ∙ ap (drop (m - n)) t.stays ∙ drop-drop (m - n) n a);
       }
+
+-- the same slices are lent
+pub same_trans : {a b c : Answers} → Same a b → Same b c → Same a c
+same_trans s t = record { refusals = t.refusals ∙ s.refusals; sides = t.sides ∙ s.sides; lines = t.lines ∙ s.lines }
 
 -- the other places, after a store
 pub set_other : (l : List ℕ) (i j x : ℕ) → (j ≡ i → ⊥) → get_or (set l i x) j 0 ≡ get_or l j 0

@@ -2,110 +2,130 @@
 
 #![tactic(auto)]
 
-ghost use Rattle.std.specs.Prelude.{◌≡◌, ◌||◌, not, [], ◌∷◌, ◌≤◌, ltb, eqb, length};
-ghost use Rattle.protocol.specs.Refusals.{◌when◌, refusal, decrease, last_end, unknown_dialect, too_long, bad_name, bad_ends};
-ghost use Rattle.protocol.specs.Classes.{class_table};
-ghost use Rattle.listing.specs.Listing.{GoodEnds, side_for, Finished, Cleared};
+ghost use Rattle.std.specs.Prelude.{◌≡◌, ◌||◌, not, [], ◌∷◌, ◌<◌, ◌≤◌, ltb, eqb, length, IfOk};
+ghost use Rattle.protocol.specs.Refusals.{◌when◌, refusal, path_rows, dialect_of, decrease, last_end, unknown_dialect, too_long, bad_name, bad_ends};
+ghost use Rattle.protocol.specs.Outcomes.{number_of};
+ghost use Rattle.listing.specs.Listing.{GoodEnds, start_at, path_at, side_for};
 
-use protocol::ClassTable;
+use octets::Classes;
+use protocol::{Dialect, Refusal, Side};
+
+// Joined paths, with the end of each.
+#[derive(Clone, Copy)]
+pub struct Paths<'a> {
+    pub joined: &'a [u8],
+    pub ends: &'a [usize],
+    ghost good: { GoodEnds joined.now ends.now },
+}
+
+impl<'a> Paths<'a> {
+    // Where path i begins: at the end in front of it.
+    fn start(&self, i: usize) -> usize
+        requires { i < length self.now.ends.now }
+        ensures { result ≡ start_at self.now.ends.now i }
+    {
+        if i == 0 { 0 } else { self.ends[i - 1] }
+    }
+
+    // Path i, counted from 0.
+    #[tactic(auto, using(crate::proofs::Ends::path_begins, crate::proofs::Ends::path_stops), unfolding(protocol::specs::Text::octets_at))]
+    pub fn path(&self, i: usize) -> &'a [u8]
+        requires { i < length self.now.ends.now }
+        ensures { result.now ≡ path_at self.now.joined.now self.now.ends.now i }
+    {
+        &self.joined[self.start(i)..self.ends[i]]
+    }
+}
+
+// The memory lent for the answers, a place for each path: three slices, as the C caller of robots_batch lends them.
+#[derive(Drop)]
+pub struct Answers<'a> {
+    pub refusals: &'a mut [usize],
+    pub sides: &'a mut [usize],
+    pub lines: &'a mut [usize],
+}
 
 // The ends decrease somewhere, or the last isn't the joined length.
+#[tactic(auto, using(crate::proofs::Ends::decrease_here, crate::proofs::Ends::decrease_on, crate::proofs::Ends::decrease_end, crate::proofs::Ends::last_on, crate::proofs::Ends::last_end_lem))]
 fn are_bad(ends: &[usize], joined: usize) -> bool
     ensures { result ≡ (decrease 0 ends.now || not (eqb (last_end 0 ends.now) joined)) }
 {
     let mut last = 0;
-    let mut i = 0;
-    while i < ends.len() {
-        let end = ends[i];
+    for &end in ends {
         if end < last {
             return true;
         }
         last = end;
-        i += 1;
     }
     last != joined
 }
 
-// One of three slices has no place for each of so many paths.
-pub fn is_short(count: usize, refusals: usize, sides: usize, lines: usize) -> bool
-    ensures { result ≡ (ltb refusals count || ltb sides count || ltb lines count) }
-{
-    if refusals < count {
-        return true;
-    }
-    if sides < count {
-        return true;
-    }
-    lines < count
-}
-
-// Why the call is refused: 0 if it isn't.
+// Why the call is refused, or its dialect.
 #[tactic(auto, using(protocol::proofs::Refused::refusal_here, protocol::proofs::Refused::refusal_on, protocol::proofs::Refused::unknown_dialect_lem, crate::proofs::Refusing::long_file, crate::proofs::Refusing::bad_name_lem, crate::proofs::Refusing::good_name), unfolding(protocol::specs::Refusals::refusal))]
-pub fn call_refusal(
-    classes: &ClassTable,
+pub fn check_call(
+    classes: &Classes,
     file: &[u8],
     name: &[u8],
     paths: &[u8],
     ends: &[usize],
     short: bool,
     dialect: usize,
-) -> usize
-    requires { classes.now ≡ class_table }
-    ensures { result ≡ refusal (unknown_dialect dialect ∷ too_long file.now ∷ bad_name name.now ∷ bad_ends paths.now ends.now ∷ (13 when short) ∷ []) }
+) -> Result<Dialect, Refusal>
+    ensures refusal { number_of result ≡ refusal (unknown_dialect dialect ∷ too_long file.now ∷ bad_name name.now ∷ bad_ends paths.now ends.now ∷ (13 when short) ∷ []) }
+    ensures dialect { IfOk result (λ d. d ≡ dialect_of dialect) }
 {
-    if 1 < dialect {
-        return 20;
-    }
+    let known = Dialect::try_from(dialect)?;
     if 512000 < file.len() {
-        return 1;
+        return Err(Refusal::TooLong);
     }
     if readable::is_bad_name(classes, name) {
-        return 2;
+        return Err(Refusal::BadName);
     }
     if are_bad(ends, paths.len()) {
-        return 12;
+        return Err(Refusal::BadEnds);
     }
     if short {
-        return 13;
+        return Err(Refusal::ShortAnswers);
     }
-    0
+    Ok(known)
 }
 
-// Zeros in the first n places.
-pub fn clear(n: usize, slice: &mut [usize])
-    requires { n ≤ length slice.old }
-    ensures { Cleared n slice.old slice.new }
+// A path's own refusal, in the place of its leader's weight. A refused path fails shut.
+fn finish_path(path: &[u8], refused: &mut usize, side: &mut usize)
+    ensures refused { refused.new ≡ refusal (path_rows path.now) }
+    ensures side { side.new ≡ side_for (refusal (path_rows path.now)) side.old }
 {
-    let mut i = 0;
-    while i < n {
-        slice[i] = 0;
-        i += 1;
+    match paths::check_path(path) {
+        Ok(()) => *refused = 0,
+        Err(refusal) => {
+            *refused = refusal.number();
+            *side = usize::from(Side::Disallow);
+        }
     }
 }
 
-// The decision of a path with that refusal: a refused one fails shut.
-fn side_for(refusal: usize, side: usize) -> usize
-    ensures { result ≡ side_for refusal side }
-{
-    if refusal != 0 {
-        return 1;
-    }
-    side
-}
+impl Answers<'_> {
+    ghost use Rattle.listing.specs.Memory.{held, Same, Finished};
 
-// After the last round: each path's own refusal, in the place of its leader's weight.
-pub fn finish(paths: &[u8], ends: &[usize], refusals: &mut [usize], sides: &mut [usize])
-    requires { GoodEnds paths.now ends.now × (length ends.now ≤ length refusals.old) × (length ends.now ≤ length sides.old) }
-    ensures { Finished paths.now ends.now refusals.old sides.old refusals.new sides.new }
-{
-    let mut start = 0;
-    let mut i = 0;
-    while i < ends.len() {
-        let end = ends[i];
-        let refusal = paths::path_refusal(&paths[start..end]);
-        refusals[i] = refusal;
-        sides[i] = side_for(refusal, sides[i]);
-        start = end;
-        i += 1;
+    // Some slice has no place for each of so many paths.
+    pub fn is_short(&self, count: usize) -> bool
+        ensures { result ≡ (ltb (length self.now.refusals.now) count || ltb (length self.now.sides.now) count || ltb (length self.now.lines.now) count) }
+    {
+        self.refusals.len() < count || self.sides.len() < count || self.lines.len() < count
+    }
+
+    // After the last round: each path's own refusal and decision.
+    pub fn finish(&mut self, paths: Paths)
+        requires refusals { length paths.ends.now ≤ length self.old.refusals.now }
+        requires sides { length paths.ends.now ≤ length self.old.sides.now }
+        ensures same { Same self.old self.new }
+        ensures finished { Finished paths.entry.joined.now paths.entry.ends.now (held self.old) (held self.new) }
+    {
+        // The borrow checker doesn't cover the loan of a place in a slice that is a field.
+        let refusals = &mut *self.refusals;
+        let sides = &mut *self.sides;
+        for i in 0..paths.ends.len() {
+            finish_path(paths.path(i), &mut refusals[i], &mut sides[i]);
+        }
     }
 }

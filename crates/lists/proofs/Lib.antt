@@ -1,3 +1,4 @@
+pub mod Library
 pub mod Appends
 pub mod Bools
 pub mod Cuts

@@ -1,5 +1,5 @@
 -- A raw pattern's end mark: where it stands, and what is left without it. Assumes nothing.
-use Prim.Native.Nat.{ℕ, ◌+◌, ◌-◌, ◌<◌}
+use Prim.Native.Nat.{ℕ, ◌+◌, ◌-◌, ◌≤◌, ◌<◌}
 use Prim.Native.Char.{Char}
 use mathlib.Core.Path.{◌≡◌, refl, sym, ◌∙◌}
 use mathlib.Core.Bool.{true, false}
@@ -7,20 +7,16 @@ use mathlib.Core.List.{List, [], ◌∷◌}
 use native.Mathlib.Omega.{arith}
 use native.Mathlib.Numerals.{unary_clauses}
 use lib.Dec.{ltb}
-use lib.ListN.{length, take, drop, get_or}
+use lib.ListN.{length, take, get_or}
 use lib.Seq.{take-length}
-use borrow.Author.Tests.{lt-ltb, le-ltb}
-use Rattle.lists.specs.Lists.{up_to}
+use borrow.Author.Tests.{lt-ltb, le-ltb, eq-eqb, ne_eqb}
 use Rattle.lists.proofs.Bools.{split}
 use Rattle.lists.proofs.Fronts.{drop_last_take}
-use Rattle.lists.proofs.Scans.{scan_none, scan_stop, scan_on}
 use Rattle.protocol.specs.Octets.{is}
 use Rattle.protocol.specs.Text.{ends}
 use Rattle.protocol.specs.Normal.{normal}
 use Rattle.protocol.specs.Pattern.{raw_text, shape_of, weight}
 use Rattle.protocol.proofs.Sizes.{end_mark_length}
-use Rattle.words.specs.Words.{among}
-use Rattle.text.proofs.Seeks.{only_one}
 
 -- the last octet, by its index
 ends_last : (c : Char) (l : List ℕ) → 0 < length l → ends c l ≡ is c (get_or l (length l - 1) 0)
@@ -36,20 +32,18 @@ module _ (raw : List ℕ) where
   text_without_end_mark : ends "$" raw ≡ false → length (raw_text raw) ≡ length raw
   text_without_end_mark h = omega (arith, rw h at (end_mark_length raw))
 
-  -- a "$" looked for from the last octet on
-  pub end_mark_sought : 0 < length raw → length raw - 1 + length (up_to (among 36 36 true) (drop (length raw - 1) raw)) ≡ length (raw_text raw)
-  end_mark_sought h =
-      let last = length raw - 1 in
-      let there = only_one 36 (get_or raw last 0) ∙ sym (ends_last "$" raw h) in
-      split (ends "$" raw)
-      (λ e. omega (arith, scan_stop (among 36 36 true) raw last 0 (omega arith) (there ∙ e), text_end_marked e))
-      (λ e.
-      omega (
-        arith,
-        scan_on (among 36 36 true) raw last 0 (omega arith) (there ∙ e),
-        scan_none (among 36 36 true) raw (last + 1) 0 (omega arith),
-        text_without_end_mark e,
-      ))
+  -- the last octet is the end mark if it is "$"
+  pub marked : 1 ≤ length raw → get_or raw (length raw - 1) 0 ≡ 36 → length raw - 1 ≡ length (raw_text raw)
+  marked h e = sym (text_end_marked (ends_last "$" raw h ∙ eq-eqb (get_or raw (length raw - 1) 0) 36 e))
+
+  pub unmarked : 1 ≤ length raw → (get_or raw (length raw - 1) 0 ≡ 36 → ⊥) → length raw ≡ length (raw_text raw)
+  unmarked h e = sym (text_without_end_mark (ends_last "$" raw h ∙ ne_eqb (get_or raw (length raw - 1) 0) 36 e))
+
+  pub none_marked : length raw < 1 → length raw ≡ length (raw_text raw)
+  none_marked h = omega (arith, end_mark_length raw)
+
+  pub text_inside : length (raw_text raw) ≤ length raw
+  text_inside = omega (arith, end_mark_length raw)
 
   -- it is the raw pattern's front
   pub text_front : take (length (raw_text raw)) raw ≡ raw_text raw

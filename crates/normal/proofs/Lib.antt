@@ -1,3 +1,4 @@
+pub mod Laws
 pub mod Cuts
 pub mod EndMarks
 pub mod Literal

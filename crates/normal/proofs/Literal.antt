@@ -2,21 +2,25 @@
 use Prim.Native.Nat.{ℕ, ◌+◌, ◌≤◌, ◌<◌}
 use Prim.Native.Char.{Char, code}
 use mathlib.Core.Path.{◌≡◌, refl, sym, ap, ◌∙◌}
-use mathlib.Core.Bool.{Bool, true, false, not, true≢false}
+use mathlib.Core.Bool.{Bool, true, false, not, not-not, true≢false}
 use mathlib.Core.List.{List, [], ◌∷◌, ◌++◌}
 use native.Mathlib.Omega.{arith}
-use lib.Dec.{leb}
+use lib.Dec.{leb, ltb}
 use lib.ListN.{length, take, drop, length-append, take-append-drop}
-use lib.Seq.{length-take-le, sets}
-use borrow.Author.Tests.{leb-true, lt-leb, ne_eqb}
+use lib.Seq.{length-take-le}
+use borrow.Author.Tests.{leb-true, lt-leb, ne_eqb, ltb-false}
+use Rattle.std.specs.List.{position, position_or_len}
+use Rattle.std.specs.Option.{unwrap_or}
+use Rattle.lists.proofs.Library.{position_is}
 use Rattle.lists.specs.Lists.{all, any, up_to}
 use Rattle.lists.proofs.Bools.{split, and_left, and_right}
 use Rattle.lists.proofs.Scans.{up_to_fits, take_up_to}
 use Rattle.lists.proofs.Fronts.{up_to_clear, front_passes}
 use Rattle.protocol.specs.Octets.{is}
 use Rattle.protocol.specs.Normal.{special, is_encoded, normal, normal_path}
+use Rattle.escapes.specs.Escapes.{kept}
 use Rattle.normal.specs.Literal.{literal, not_literal}
-use Rattle.normal.proofs.Steps.{normal_kept, Stores, store_on}
+use Rattle.normal.proofs.Steps.{normal_kept}
 
 module _ (x : ℕ) (h : literal x ≡ true) where
   literal_above : 0x2B ≤ x
@@ -49,10 +53,11 @@ literal_first stars n s h =
     ap (up_to (is_encoded stars)) (sym (take-append-drop n s))
     ∙ up_to_clear literal (is_encoded stars) (λ x e. literal_kept x e stars) (take n s) (drop n s) h
 
-pub literal_shorter : (stars : Bool) (s : List ℕ) → length (up_to not_literal s) ≤ length (up_to (is_encoded stars) s)
-literal_shorter stars s =
-    let n : ℕ = length (up_to not_literal s) in
-    let f : (n ≤ length s) × (all literal (take n s) ≡ true) = front_known s n refl in
+-- the octets in front of the first that is encoded: n literal ones, and those behind them
+pub kept_behind : (stars : Bool) (s : List ℕ) (n : ℕ) → n ≡ length (up_to not_literal s)
+    → n + length (up_to (is_encoded stars) (drop n s)) ≡ length (up_to (is_encoded stars) s)
+kept_behind stars s n e =
+    let f : (n ≤ length s) × (all literal (take n s) ≡ true) = front_known s n e in
     omega (
       arith,
       ap length (literal_first stars n s f.1),
@@ -60,17 +65,15 @@ literal_shorter stars s =
       length-take-le n s f.0,
     )
 
--- `copy` holds literal octets of the front, n of them: what is left of the front, stored behind them
-module _ (stars : Bool) (s out : List ℕ) (n : ℕ) (copy : List ℕ) (e : (n ≤ length s) × (all literal (take n s) ≡ true) × (copy ≡ sets out 0 (take n s))) where
-  pub literal_stored : Stores out (up_to (is_encoded stars) s) 0 copy (up_to (is_encoded stars) (drop n s)) n
-  literal_stored =
-      let z : 0 + length (take n s) ≡ n = omega (arith, length-take-le n s e.0) in
-      let start : Stores out (up_to (is_encoded stars) s) 0 out (up_to (is_encoded stars) s) 0 = record { end = refl; size = refl; same = refl } in
-      rw e.2 (rw z at (store_on start (take n s) (up_to (is_encoded stars) (drop n s)) (literal_first stars n s e.1)))
+-- an octet is encoded if it isn't kept
+pub as_encoded : (stars : Bool) (x : ℕ) (b : Bool) → b ≡ not (kept stars x) → b ≡ is_encoded stars x
+as_encoded stars x b h = h ∙ not-not (is_encoded stars x)
 
-  pub front_rest : {r : ℕ} {o : List ℕ} → (r ≡ n + length (up_to (is_encoded stars) (drop n s))) × (o ≡ sets copy n (up_to (is_encoded stars) (drop n s)))
-      → (r ≡ length (up_to (is_encoded stars) s)) × (o ≡ sets out 0 (up_to (is_encoded stars) s))
-  front_rest (f, g) = (omega (arith, f, literal_stored), g ∙ literal_stored.same)
+-- the place of the first octet that passes, or the length where none does
+pub front_position : (f : ℕ → Bool) (l : List ℕ) → unwrap_or (position f l) (length l) ≡ length (up_to f l)
+front_position f l =
+    split (ltb (position_or_len f l) (length l)) (λ e. rw e (position_is f l))
+    (λ e. rw e (omega (arith, ltb-false _ _ e, position_is f l, up_to_fits f l)))
 
 -- an octet that is encoded isn't literal
 pub encoded_other : (x : ℕ) → is_encoded false x ≡ true → not_literal x ≡ true

@@ -1,21 +1,20 @@
 -- Normalising, replacement by replacement: what a turn of each loop needs. Assumes nothing.
-use Prim.Native.Nat.{ℕ, zero, suc, ◌+◌, ◌≤◌, ◌<◌}
+use Prim.Native.Nat.{ℕ, zero, suc, ◌+◌, ◌-◌, ◌≤◌, ◌<◌}
 use mathlib.Core.Path.{◌≡◌, refl, sym, ap, ◌∙◌}
-use mathlib.Core.Bool.{Bool, true, false, not}
+use mathlib.Core.Bool.{Bool, false, not}
 use mathlib.Core.List.{List, [], ◌∷◌, ◌++◌}
 use native.Mathlib.Omega.{arith}
 use lib.ListN.{length, take, drop, get_or, length-append, length-drop, drop_of_length-le}
-use lib.Seq.{drop-drop, drop-nil, get_or-take, length-take-le, sets, length-sets}
-use borrow.Author.Tests.{not-true, not-false}
+use lib.Seq.{drop-nil, sets, length-sets}
+use Rattle.std.proofs.lemmas.List.{nil_from_length}
 use Rattle.lists.specs.Lists.{up_to}
 use Rattle.lists.proofs.Bools.{split}
-use Rattle.lists.proofs.Scans.{drop_one}
-use Rattle.lists.proofs.Parts.{up_to_stop, up_to_on}
+use Rattle.lists.proofs.Scans.{rest_of, take_up_to}
 use Rattle.lists.proofs.Fronts.{sets_append, sets_front}
 use Rattle.protocol.specs.Normal.{is_escape, is_encoded, replacement, normal}
 use Rattle.protocol.specs.Answers.{at_front}
-use Rattle.escapes.specs.Escapes.{kept, taken}
-use Rattle.escapes.proofs.Forms.{replacement_kept}
+use Rattle.escapes.specs.Escapes.{taken}
+use Rattle.escapes.proofs.Forms.{kept_alone, replacement_kept}
 
 -- what belongs to an escape that is done is passed over
 skip : (stars : Bool) (n : ℕ) (l : List ℕ) → normal stars n l ≡ normal stars 0 (drop n l)
@@ -32,9 +31,7 @@ normal_cons stars c l =
 
 -- an octet that isn't encoded stays
 pub normal_kept : (stars : Bool) (c : ℕ) (l : List ℕ) → is_encoded stars c ≡ false → normal stars 0 (c ∷ l) ≡ c ∷ normal stars 0 l
-normal_kept stars c l e =
-    let k = replacement_kept stars c l (ap not e) in
-    normal_cons stars c l ∙ rw (← k.octets, ← k.taken)
+normal_kept stars c l e = normal_cons stars c l ∙ rw (replacement_kept stars c l (ap not e), kept_alone stars c l (ap not e))
 
 -- the octets in front of the first that is encoded, and what is left behind them
 normal_front : (stars : Bool) (s : List ℕ) → normal stars 0 s ≡ up_to (is_encoded stars) s ++ normal stars 0 (drop (length (up_to (is_encoded stars) s)) s)
@@ -42,6 +39,11 @@ unfolding normal up_to
 normal_front stars [] = refl
 normal_front stars (c ∷ l) =
     split (is_encoded stars c) (λ e. rw e) (λ e. rw (e, normal_kept stars c l e) (ap (λ (m : List ℕ). c ∷ m) (normal_front stars l)))
+
+-- the octets in front are among the normalised ones
+pub kept_shorter : (stars : Bool) (s : List ℕ) → length (up_to (is_encoded stars) s) ≤ length (normal stars 0 s)
+kept_shorter stars s =
+    omega (arith, ap length (normal_front stars s), length-append (up_to (is_encoded stars) s) (normal stars 0 (drop (length (up_to (is_encoded stars) s)) s)))
 
 -- an escape is whole
 taken_whole : (c : ℕ) (l : List ℕ) → taken c l ≤ suc (length l)
@@ -57,37 +59,49 @@ pub normal_end : (stars : Bool) (s : List ℕ) (i : ℕ) → length s ≤ i → 
 unfolding normal
 normal_end stars s i h = rw (drop_of_length-le s h)
 
--- what is left at the index i is a replacement's octets and what is left behind it; the replacement takes some octets, and no more than there are
-pub record Turn (stars : Bool) (s : List ℕ) (i : ℕ) (octets : List ℕ) (taken : ℕ) : Type 0 where
-  pub on : normal stars 0 (drop i s) ≡ octets ++ normal stars 0 (drop (i + taken) s)
-  pub whole : length (normal stars 0 (drop i s)) ≡ length octets + length (normal stars 0 (drop (i + taken) s))
-  pub inside : i + taken ≤ length s
-  pub further : i < i + taken
+-- what the first replacement takes: some of the text's octets, and no more than there are
+module _ (s : List ℕ) where
+  pub first_some : 0 < taken (get_or s 0 0) (drop 1 s)
+  first_some = taken_some (get_or s 0 0) (drop 1 s)
 
-module _ (stars : Bool) (s : List ℕ) (i : ℕ) (h : i < length s) where
-  pub turn : (octets : List ℕ) (n : ℕ) → octets ≡ replacement stars (get_or s i 0) (drop (i + 1) s) → n ≡ taken (get_or s i 0) (drop (i + 1) s)
-      → Turn stars s i octets n
-  turn octets n e f =
-      let c = get_or s i 0 in
-      let l = drop (i + 1) s in
-      let o : normal stars 0 (drop i s) ≡ octets ++ normal stars 0 (drop (i + n) s) =
-      rw (e, f, ← drop-drop (taken c l) i s, drop_one s i 0 h) (normal_cons stars c l) in
-      record {
-        on = o;
-        whole = ap length o ∙ length-append octets (normal stars 0 (drop (i + n) s));
-        inside = omega (arith, taken_whole c l, length-drop (i + 1) s);
-        further = omega (arith, taken_some c l);
-      }
+  pub first_inside : 0 < length s → taken (get_or s 0 0) (drop 1 s) ≤ length s
+  first_inside h = omega (arith, taken_whole (get_or s 0 0) (drop 1 s), length-drop 1 s)
 
-  -- an octet that stays is the first of the octets in front, and of what is left; any other ends those in front
-  pub front_ends : kept stars (get_or s i 0) ≡ false → up_to (is_encoded stars) (drop i s) ≡ []
-  front_ends e = rw (drop_one s i 0 h) (up_to_stop (is_encoded stars) _ _ (not-false _ e))
+-- the first replacement, and what is left behind the n octets that it takes
+module _ (stars : Bool) (s : List ℕ) where
+  on : 0 < length s
+      → normal stars 0 s ≡ replacement stars (get_or s 0 0) (drop 1 s) ++ normal stars 0 (drop (taken (get_or s 0 0) (drop 1 s)) s)
+  on h = elim s as (λ t. 0 < length t → normal stars 0 t ≡ replacement stars (get_or t 0 0) (drop 1 t) ++ normal stars 0 (drop (taken (get_or t 0 0) (drop 1 t)) t)) [
+    | [] ↦ λ k. absurd (omega arith)
+    | c ∷ l ↦ λ k. normal_cons stars c l
+  ] h
 
-  pub front_on : kept stars (get_or s i 0) ≡ true → up_to (is_encoded stars) (drop i s) ≡ get_or s i 0 ∷ up_to (is_encoded stars) (drop (i + 1) s)
-  front_on e = rw (drop_one s i 0 h) (up_to_on (is_encoded stars) _ _ (not-true _ e))
+  pub first_on : (n : ℕ) → 0 < length s → n ≡ taken (get_or s 0 0) (drop 1 s)
+      → normal stars 0 s ≡ replacement stars (get_or s 0 0) (drop 1 s) ++ normal stars 0 (take (length s - n) (drop n s))
+  first_on n h e = rw (e, rest_of (taken (get_or s 0 0) (drop 1 s)) s) (on h)
 
-  pub normal_on : kept stars (get_or s i 0) ≡ true → normal stars 0 (drop i s) ≡ get_or s i 0 ∷ normal stars 0 (drop (i + 1) s)
-  normal_on e = rw (drop_one s i 0 h) (normal_kept stars _ _ (not-true _ e))
+  pub first_length : (n : ℕ) → 0 < length s → n ≡ taken (get_or s 0 0) (drop 1 s)
+      → length (normal stars 0 s) ≡ length (replacement stars (get_or s 0 0) (drop 1 s)) + length (normal stars 0 (take (length s - n) (drop n s)))
+  first_length n h e = ap length (first_on n h e) ∙ length-append (replacement stars (get_or s 0 0) (drop 1 s)) (normal stars 0 (take (length s - n) (drop n s)))
+
+  pub first_least : 0 < length s → length (replacement stars (get_or s 0 0) (drop 1 s)) ≤ length (normal stars 0 s)
+  first_least h = omega (arith, first_length (taken (get_or s 0 0) (drop 1 s)) h refl)
+
+-- to write it, and what is left behind it, writes the whole
+pub first_written : (stars : Bool) (s : List ℕ) (n : ℕ) (out : List ℕ) (at : ℕ) → 0 < length s → n ≡ taken (get_or s 0 0) (drop 1 s)
+    → sets (sets out at (replacement stars (get_or s 0 0) (drop 1 s))) (at + length (replacement stars (get_or s 0 0) (drop 1 s)))
+    (normal stars 0 (take (length s - n) (drop n s)))
+    ≡ sets out at (normal stars 0 s)
+first_written stars s n out at h e =
+    sym (sets_append (replacement stars (get_or s 0 0) (drop 1 s)) (normal stars 0 (take (length s - n) (drop n s))) out at)
+    ∙ ap (λ (l : List ℕ). sets out at l) (sym (first_on stars s n h e))
+
+pub normal_none : (stars : Bool) (s : List ℕ) → length s ≡ 0 → normal stars 0 s ≡ []
+unfolding normal
+normal_none stars s h = rw (nil_from_length s h)
+
+pub length_none : (stars : Bool) (s : List ℕ) → length s ≡ 0 → length (normal stars 0 s) ≡ 0
+length_none stars s h = ap length (normal_none stars s h)
 
 -- to store what is left at n leaves what to store the whole at k would have left
 pub record Stores (was whole : List ℕ) (k : ℕ) (out left : List ℕ) (n : ℕ) : Type 0 where
@@ -107,9 +121,12 @@ module _ {was whole : List ℕ} {k : ℕ} {out left : List ℕ} {n : ℕ} (h : S
   pub all_stored : left ≡ [] → (n ≡ k + length whole) × (out ≡ sets was k whole)
   all_stored e = (omega (arith, h.end, ap length e), rw e at h.same)
 
--- the next octet of a front that is copied, and those behind it
-pub copy_on : (s : List ℕ) (n i : ℕ) → i < n → n ≤ length s → drop i (take n s) ≡ get_or s i 0 ∷ drop (i + 1) (take n s)
-copy_on s n i h k = drop_one (take n s) i 0 (omega (arith, length-take-le n s k)) ∙ rw (get_or-take n s i 0 h)
+-- n octets copied to the front
+pub copied : (f : ℕ → Bool) (s out copy : List ℕ) (n : ℕ) → n ≡ length (up_to f s) → n ≤ length out → copy ≡ take n s
+    → copy ++ drop n out ≡ sets out 0 (up_to f s)
+copied f s out copy n e h k =
+    let b : length (up_to f s) ≤ length out = omega arith in
+    rw (k, e, take_up_to f s) (sym (sets_front (up_to f s) out b))
 
 -- `copy` holds the octets in front of the first that is encoded, n of them
 module _ (stars : Bool) (s out : List ℕ) (n : ℕ) (copy : List ℕ) (e : (n ≡ length (up_to (is_encoded stars) s)) × (copy ≡ sets out 0 (up_to (is_encoded stars) s))) where

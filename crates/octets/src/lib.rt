@@ -20,76 +20,72 @@ const CLASSES: ClassTable =
 // The upper-case hex digits.
 const DIGITS: [u8; 16] = *b"0123456789ABCDEF";
 
-// The table, copied. A constant is copied wherever it is named, so whoever is called from C copies it once, and lends it to all who ask.
-pub fn classes() -> ClassTable
-    ensures value { result ≡ class_table }
-    ensures tells_sorts { TellsSorts result }
-{
-    CLASSES
+// The table of class numbers, lent to all who ask.
+#[derive(Drop)]
+pub struct Classes {
+    pub numbers: ClassTable,
+    ghost is_class_table: { numbers ≡ class_table },
 }
 
-// The class number of an octet.
-pub fn class_of(classes: &ClassTable, x: u8) -> u8
-    requires { classes.now ≡ class_table }
-    ensures { result ≡ class_of x }
-{
-    classes[x as usize]
-}
-
-// The class numbers of a sort: the first of them.
-fn first_class(sort: Sort) -> u8
-    ensures { result ≡ first_class sort }
+// The first and the last class number of a sort.
+fn class_range(sort: Sort) -> (u8, u8)
+    ensures { result ≡ (first_class sort, last_class sort) }
 {
     match sort {
-        Sort::Token => 10,
-        Sort::Unreserved => 0,
-        Sort::Hex => 0,
-        Sort::Blank => 224,
-        Sort::LineEnd => 228,
-        Sort::Stop => 227,
-        Sort::Delimiter => 226,
+        Sort::Token => (10, 37),
+        Sort::Unreserved => (0, 39),
+        Sort::Hex => (0, 15),
+        Sort::Blank => (224, 225),
+        Sort::LineEnd => (228, 255),
+        Sort::Stop => (227, 255),
+        Sort::Delimiter => (226, 255),
     }
 }
 
-// The last of them.
-fn last_class(sort: Sort) -> u8
-    ensures { result ≡ last_class sort }
-{
-    match sort {
-        Sort::Token => 37,
-        Sort::Unreserved => 39,
-        Sort::Hex => 15,
-        Sort::Blank => 225,
-        Sort::LineEnd => 255,
-        Sort::Stop => 255,
-        Sort::Delimiter => 255,
+impl Classes {
+    // The table, copied. A constant is copied wherever it is named, so whoever is called from C copies it once, and lends it to all who ask.
+    #[tactic(auto, using(protocol::proofs::Classes::table_tells), unfolding(lists::specs::Lists::numbers_from, lists::specs::Lists::up_to, protocol::specs::Text::octets, protocol::specs::Classes::order, protocol::specs::Octets::upper, protocol::specs::Octets::lower_case, protocol::specs::Classes::class_of, protocol::specs::Classes::class_table))]
+    pub fn new() -> Self
+        ensures value { result.numbers ≡ class_table }
+        ensures tells_sorts { TellsSorts result.numbers }
+    {
+        Classes { numbers: CLASSES }
     }
-}
 
-// The octet is of that sort.
-pub fn is_of(classes: &ClassTable, sort: Sort, x: u8) -> bool
-    requires { classes.now ≡ class_table }
-    ensures { result ≡ is_of sort x }
-{
-    let c = class_of(classes, x);
-    first_class(sort) <= c && c <= last_class(sort)
-}
+    // The class number of an octet.
+    #[tactic(auto, using(protocol::proofs::Classes::entry_at))]
+    pub fn class_of(&self, x: u8) -> u8
+        ensures { result ≡ class_of x }
+    {
+        self.numbers[x as usize]
+    }
 
-// Two octets are one, ASCII case ignored.
-pub fn is_same(classes: &ClassTable, x: u8, y: u8) -> bool
-    requires { classes.now ≡ class_table }
-    ensures { result ≡ eqb (lower_case x) (lower_case y) }
-{
-    class_of(classes, x) == class_of(classes, y)
+    // The octet is of that sort.
+    #[tactic(auto, using(protocol::proofs::Classes::sort_told))]
+    pub fn is_of(&self, sort: Sort, x: u8) -> bool
+        ensures { result ≡ is_of sort x }
+    {
+        let (first, last) = class_range(sort);
+        let class = self.class_of(x);
+        first <= class && class <= last
+    }
+
+    // Two octets are one, ASCII case ignored.
+    #[tactic(auto, using(protocol::proofs::Classes::same_told))]
+    pub fn is_same(&self, x: u8, y: u8) -> bool
+        ensures { result ≡ eqb (lower_case x) (lower_case y) }
+    {
+        self.class_of(x) == self.class_of(y)
+    }
 }
 
 // The upper-case hex digit of a number.
+#[tactic(auto, using(crate::proofs::Every::digit_at))]
 fn hex_digit(n: u8) -> u8
     requires { n < 16 }
     ensures { result ≡ hex_digit n }
 {
-    let digits = DIGITS;
-    digits[n as usize]
+    DIGITS[n as usize]
 }
 
 // The first of the two upper-case hex digits of an octet.
@@ -107,6 +103,7 @@ pub fn low_digit(x: u8) -> u8
 }
 
 // An octet that no path holds. A short path is looked through sooner than the table is copied.
+#[tactic(auto, unfolding(protocol::specs::Refusals::outside_path))]
 pub fn is_outside_path(x: u8) -> bool
     ensures { result ≡ outside_path x }
 {

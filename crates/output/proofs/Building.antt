@@ -6,7 +6,8 @@ use native.Mathlib.Omega.{arith}
 use lib.ListN.{length, take, replicate, length-append, take-append-drop}
 use lib.Seq.{drop-length}
 use Rattle.output.specs.Before.{before}
-use Rattle.output.specs.Written.{written, Holds}
+use Rattle.output.specs.declared.line.Line.TheInside.{Inside}
+use Rattle.output.specs.Written.{written, ZerosInFront, Holds}
 use Rattle.output.proofs.Fronts.{take_before, drop_before, length_before, before_append}
 
 -- a text of at most n octets stands at the end of memory that held l, from the place `at` on
@@ -56,8 +57,11 @@ unfolding zeros
 take_zeros n h = take_replicate n 96 0 h
 
 -- the line that was built
+-- as does any line
+pub line_holds : (l : Inside) → ZerosInFront l → length l.octets ≡ 96 → Holds (written l) l
+line_holds l z e = record { octets = refl; zeros = z.1; inside = z.0; size = e }
+
 pub built_holds : {n start : ℕ} {text octets : List ℕ} → Built zeros n text start octets → n ≤ 96 → Holds text (record { octets = octets; start = start })
-unfolding written
 built_holds {n} {start} {text} {octets} b h =
     let room : length zeros ≡ 96 = length_zeros in
     let fits : length text ≤ length zeros = omega (arith, b.size) in

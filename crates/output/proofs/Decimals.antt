@@ -78,3 +78,18 @@ module _ (n : ℕ) where
   -- with a text in front
   pub named_size : (text : List ℕ) → length (text ++ decimal n) ≤ length text + 20
   named_size text = simp length-append (omega (arith, decimal_size))
+
+-- the digits of a number that are left, in front of a list: the last one goes over to the list
+module _ (n : ℕ) (l : List ℕ) where
+  pub digit_moved : 10 ≤ n → n < 10 ^ 20 → decimal (n / 10) ++ (last_digit n ∷ l) ≡ decimal n ++ l
+  digit_moved h k =
+      sym (append_assoc (decimal (n / 10)) (last_digit n ∷ []) l) ∙ ap (λ (m : List ℕ). m ++ l) (sym (decimal_more n h k))
+
+  pub last_moved : n < 10 → (code "0" + n) ∷ l ≡ decimal n ++ l
+  last_moved h = ap (λ (m : List ℕ). m ++ l) (sym (decimal_one n h))
+
+-- how much room they need
+pub digits_left : (n m : ℕ) (l k : List ℕ) → decimal m ++ l ≡ decimal n ++ k → length l < 20 + length k
+digits_left n m l k e =
+    let sizes : length (decimal m) + length l ≡ length (decimal n) + length k = simp length-append at (ap length e) in
+    omega (arith, sizes, decimal_some m, decimal_size n)

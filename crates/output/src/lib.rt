@@ -2,54 +2,51 @@
 
 #![tactic(auto)]
 
+mod line; // line.rt: a line of output, built from its end to its beginning
 pub mod parts; // parts.rt: the lines of the input, one after the other
-mod before; // before.rt: texts and numbers, put in front of what stands behind them
 
+ghost use Rattle.std.specs.Prelude.{◌≡◌};
 ghost use Rattle.protocol.specs.Refusals.{unless_refused};
+ghost use Rattle.protocol.specs.Outcomes.{refusal_number, decided, decision_of};
 ghost use Rattle.protocol.specs.Program.{refused_text, answer_text};
-ghost use Rattle.output.specs.Written.{Holds};
 
-use before::{decimal_before, named_before, side_before, text_before};
-use protocol::Decision;
+pub use line::Line;
+use protocol::{Refusal, Verdict};
 
-// A line of output: its octets are those from `start` to the array's end. The longest is a disallow with three numbers of 20 digits: 93
-// octets.
-#[derive(Drop)]
-pub struct Line {
-    pub octets: [u8; 96],
-    pub start: usize,
+#[tactic(auto, unfolding(protocol::specs::Program::refused_text, protocol::specs::Text::octets))]
+fn refused_line(refusal: Refusal) -> Line
+    ensures { result ≡ refused_text (refusal_number refusal) }
+{
+    let mut line = Line::new();
+    line.put_text(b"\n");
+    line.put_decimal(refusal.number());
+    line.put_text(b"refused ");
+    line
 }
 
-pub fn refused_line(number: usize) -> Line
-    ensures { Holds (refused_text number) result }
+#[tactic(auto, using(std::proofs::lemmas::List::append_assoc), unfolding(protocol::specs::Program::answer_text, protocol::specs::Text::octets))]
+fn answered_line(verdict: Verdict) -> Line
+    ensures { result ≡ answer_text (decided verdict) }
 {
-    let mut octets = [0u8; 96];
-    let end = text_before(b"\n", &mut octets, 96);
-    let digits = decimal_before(number, &mut octets, end);
-    let start = text_before(b"refused ", &mut octets, digits);
-    Line { octets, start }
+    let mut line = Line::new();
+    line.put_text(b"\n");
+    line.put_decimal(verdict.compared);
+    line.put_text(b" compared ");
+    line.put_decimal(verdict.unread);
+    line.put_text(b" unread ");
+    line.put_decimal(verdict.line.number);
+    line.put_text(b" line ");
+    line.put_side(verdict.side);
+    line
 }
 
-// The line of a decision that isn't refused.
-fn answered_line(decision: Decision) -> Line
-    ensures { Holds (answer_text decision) result }
+// The line of a decision, refused or not.
+#[tactic(auto, using(protocol::proofs::Refused::unless_refused_lem, protocol::proofs::Outcomes::refused_number), unfolding(protocol::specs::Refusals::unless_refused))]
+pub fn answer_line(answer: Result<Verdict, Refusal>) -> Line
+    ensures { result ≡ unless_refused (decision_of answer).refusal refused_text (answer_text (decision_of answer)) }
 {
-    let mut octets = [0u8; 96];
-    let side = decision.side;
-    let line = decision.line;
-    let end = text_before(b"\n", &mut octets, 96);
-    let compared = named_before(b" compared ", decision.compared, &mut octets, end);
-    let unread = named_before(b" unread ", decision.unread, &mut octets, compared);
-    let number = named_before(b" line ", line.number, &mut octets, unread);
-    let start = side_before(side, &mut octets, number);
-    Line { octets, start }
-}
-
-pub fn answer_line(decision: Decision) -> Line
-    ensures { Holds (unless_refused decision.refusal refused_text (answer_text decision)) result }
-{
-    if decision.refusal != 0 {
-        return refused_line(decision.refusal);
+    match answer {
+        Ok(verdict) => answered_line(verdict),
+        Err(refusal) => refused_line(refusal),
     }
-    answered_line(decision)
 }

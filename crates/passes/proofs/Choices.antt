@@ -5,8 +5,6 @@ use mathlib.Core.Bool.{Bool, true, false, not, ◌||◌, or-true, false≢true, 
 use mathlib.Core.List.{List, [], ◌∷◌}
 use mathlib.Core.Option.{Option, none, some}
 use native.Mathlib.Omega.{arith}
-use types.Run.{OneOf, miss}
-use denote.Enum.Declared.{tag_of}
 use lib.Dec.{ltb}
 use lib.ListN.{length}
 use borrow.Author.Tests.{ltb-true, ltb-false}
@@ -24,7 +22,6 @@ use Rattle.protocol.specs.Kinds.{kind_of}
 use Rattle.protocol.specs.Entries.{Role, agent, rule, role_of, entries}
 use Rattle.protocol.specs.Rules.{audience}
 use Rattle.protocol.proofs.FrontToBack.{lines_next, lines_end, lines_all}
-use Rattle.protocol.specs.contracts.Audience as A
 use Rattle.lines.specs.Spans.{text_at}
 use Rattle.lines.specs.Skips.{agent_octet, endings, between, next_agent}
 use Rattle.lines.proofs.Passing.{Unasked, agents_on, agents_further}
@@ -91,8 +88,8 @@ first_crawler true y e = refl
 first_crawler false true e = absurd (false≢true (ap is_crawler e))
 first_crawler false false e = absurd (false≢true (ap is_crawler e))
 
-first_other : (x y : Bool) → OneOf (1 ∷ 2 ∷ []) (tag_of A.the_type (first_of x y)) → x ≡ false
-first_other true y o = absurd (miss (1 ∷ 2 ∷ []) 0 tt o)
+first_other : (x y : Bool) → (first_of x y ≡ Audience.Crawler → ⊥) → x ≡ false
+first_other true y o = absurd (o refl)
 first_other false y o = refl
 
 -- a line that names "*" or doesn't, lines in front of it, and lines behind it that name the crawler, or "*"
@@ -113,29 +110,13 @@ first_nobody false true e = absurd (true≢false (ap is_everyone (sym e)))
 first_nobody false false e = refl
 
 -- whom the lines up to this one name, where it doesn't name the crawler
-after_audience : (a here : Audience) (p : Place) (c : Chosen) → c.audience ≡ a → OneOf (1 ∷ 2 ∷ []) (tag_of A.the_type here)
+after_audience : (a here : Audience) (p : Place) (c : Chosen) → c.audience ≡ a → (here ≡ Audience.Crawler → ⊥)
     → (after_line a here p c).audience ≡ unless_nobody here a
-after_audience a Audience.Crawler p c e o = absurd (miss (1 ∷ 2 ∷ []) 0 tt o)
+after_audience a Audience.Crawler p c e o = absurd (o refl)
 after_audience Audience.Crawler Audience.Everyone p c e o = refl
 after_audience Audience.Everyone Audience.Everyone p c e o = refl
 after_audience Audience.Nobody Audience.Everyone p c e o = refl
 after_audience a Audience.Nobody p c e o = e
-
--- what is chosen after a line that doesn't name "*", or does, again or for the first time
-pub after_other : (c : Chosen) (here : Audience) (p : Place) → OneOf (0 ∷ 2 ∷ []) (tag_of A.the_type here) → c ≡ after_line c.audience here p c
-after_other c Audience.Crawler p o = refl
-after_other c Audience.Everyone p o = absurd (miss (0 ∷ 2 ∷ []) 1 tt o)
-after_other c Audience.Nobody p o = refl
-
-pub after_again : (a here : Audience) (p : Place) (c : Chosen) → here ≡ Audience.Everyone → a ≡ Audience.Everyone
-    → record { audience = a; first = c.first; only = false } ≡ after_line a here p c
-after_again a here p c e t = rw (e, t)
-
-pub after_first : (a here : Audience) (p : Place) (c : Chosen) → here ≡ Audience.Everyone → OneOf (0 ∷ 2 ∷ []) (tag_of A.the_type a)
-    → record { audience = here; first = p; only = true } ≡ after_line a here p c
-after_first Audience.Crawler here p c e o = rw e
-after_first Audience.Everyone here p c e o = absurd (miss (0 ∷ 2 ∷ []) 1 tt o)
-after_first Audience.Nobody here p c e o = rw e
 
 -- the lines behind the one at p are asked as those from the next one on that may be an agent line
 module _ {X : Type 0} (ask : List Line → X) (same : Unasked agent_octet ask) (file : List ℕ) (p : Place) (f : skipped file ≤ p.offset) (h : p.offset < length file) where
@@ -278,7 +259,7 @@ module _ (file crawler : List ℕ) (p : Place) (f : skipped file ≤ p.offset) (
       ∙ from_on (line_names file who) _ (lines_past file (line_at file p)) n
       ∙ agents_at (from (line_names file who)) (from_unasked file who) file p f h
 
-  module _ (here : Audience) (e : here ≡ line_audience file crawler p) (o : OneOf (1 ∷ 2 ∷ []) (tag_of A.the_type here)) where
+  module _ (here : Audience) (e : here ≡ line_audience file crawler p) (o : here ≡ Audience.Crawler → ⊥) where
     other : names crawler ≡ false
     other = first_other (names crawler) (names everyone) (rw e at o)
 
@@ -295,10 +276,10 @@ module _ (file crawler : List ℕ) (p : Place) (f : skipped file ≤ p.offset) (
     stars_on a first only s =
         go here o (λ t. first_everyone (names crawler) (names everyone) (sym t ∙ e)) (λ t. first_nobody (names crawler) (names everyone) (sym t ∙ e)) a s
       where
-        go : (x : Audience) → OneOf (1 ∷ 2 ∷ []) (tag_of A.the_type x) → (x ≡ Audience.Everyone → names everyone ≡ true)
+        go : (x : Audience) → (x ≡ Audience.Crawler → ⊥) → (x ≡ Audience.Everyone → names everyone ≡ true)
             → (x ≡ Audience.Nobody → names everyone ≡ false) → (a : Audience) → Stars file a first only p
             → let d = after_line a x p (record { audience = a; first = first; only = only }) in Stars file d.audience d.first d.only next
-        go Audience.Crawler z y n a s = absurd (miss (1 ∷ 2 ∷ []) 0 tt z)
+        go Audience.Crawler z y n a s = absurd (z refl)
         go Audience.Everyone z y n Audience.Crawler s = absurd s
         go Audience.Everyone z y n Audience.Everyone s =
             let named : any (line_names file everyone) (lines_on file (line_at file p)) ≡ true = names_here file (line_at file p) h everyone ∙ rw (y refl) in

@@ -6,8 +6,6 @@ use mathlib.Core.List.{List, [], ◌∷◌}
 use native.Mathlib.Omega.{arith}
 use lib.Dec.{eqb}
 use lib.ListN.{length, take, drop, length-take}
-use types.Run.{OneOf, miss}
-use denote.Enum.Declared.{tag_of}
 use borrow.Author.Tests.{eqb-true}
 use Rattle.lists.specs.Occurs.{Occurs}
 use Rattle.lists.proofs.Bools.{split}
@@ -33,7 +31,6 @@ use Rattle.protocol.proofs.Unread.{unreadable_as, kind_unreadable}
 use Rattle.lines.specs.Spans.{text_at}
 use Rattle.lines.proofs.Forward.{text_inside}
 use Rattle.kinds.specs.Entries.{entry_kind}
-use Rattle.protocol.specs.contracts.Pattern as P
 use Rattle.considering.specs.declared.Considered.{Considered}
 use Rattle.considering.specs.Considering.{considered, considered_all, Room as Fits}
 use Rattle.considering.proofs.Weighs.{empty_unreadable}
@@ -130,17 +127,17 @@ is_readable Pattern.Empty = false
 is_readable (Pattern.Readable p n) = true
 is_readable (Pattern.Unreadable p n) = false
 
-pattern_says : (text : List ℕ) (side : Side) (q : Pattern) → Says text (Kind.Rule side q)
-    → readable_pattern (octets_at text (place_of (Kind.Rule side q)) (length_of (Kind.Rule side q))) ≡ is_readable q
+pattern_says : (line : List ℕ) (side : Side) (q : Pattern) → Says line (Kind.Rule side q)
+    → readable_pattern (octets_at line (place_of (Kind.Rule side q)) (length_of (Kind.Rule side q))) ≡ is_readable q
 unfolding octets_at
-pattern_says text side Pattern.Empty h = empty_unreadable
-pattern_says text side (Pattern.Readable p n) h = h.told
-pattern_says text side (Pattern.Unreadable p n) h = h.0.told
+pattern_says line side Pattern.Empty h = empty_unreadable
+pattern_says line side (Pattern.Readable p n) h = h.told
+pattern_says line side (Pattern.Unreadable p n) h = h.0.told
 
 -- past a `let .. else` that asks for a readable one
-not_readable : (q : Pattern) → OneOf (0 ∷ 2 ∷ []) (tag_of P.the_type q) → is_readable q ≡ false
+not_readable : (q : Pattern) → ((p : Place) (n : ℕ) → q ≡ Pattern.Readable p n → ⊥) → is_readable q ≡ false
 not_readable Pattern.Empty h = refl
-not_readable (Pattern.Readable p n) h = absurd (miss (0 ∷ 2 ∷ []) 1 tt h)
+not_readable (Pattern.Readable p n) h = absurd (h p n refl)
 not_readable (Pattern.Unreadable p n) h = refl
 
 -- a rule line at a position, and the rule that is heard of it
@@ -162,7 +159,7 @@ module _ (file : List ℕ) (at : Position) (side : Side) (pattern : Pattern) (k 
   unapplied_here a = rw a
 
   -- and none with a pattern that isn't readable;
-  pub unreadable_here : OneOf (0 ∷ 2 ∷ []) (tag_of P.the_type pattern) → heard_here ≡ []
+  pub unreadable_here : ((p : Place) (n : ℕ) → pattern ≡ Pattern.Readable p n → ⊥) → heard_here ≡ []
   unfolding rule_heard
   unreadable_here o = rw (readable_known, not_readable pattern o, and-false applies)
 
@@ -181,10 +178,10 @@ module _ (file : List ℕ) (at : Position) (side : Side) (pattern : Pattern) (k 
     pub pattern_inside : at.place.offset + p.offset + n ≤ length file
     pattern_inside = omega (arith, pattern_ends, text_inside file at.place h)
 
-    -- its pattern's octets, as they are read
     abbrev start : ℕ
     start = at.place.offset + p.offset
 
+    -- its pattern's octets, as they are read
     pub pattern_read : take (start + n - start) (drop start file) ≡ octets_at file (place_at start) n
     unfolding octets_at
     pattern_read = let e : start + n - start ≡ n = omega arith in rw e
@@ -205,18 +202,18 @@ module _ (d : Dialect) (file path : List ℕ) (at : Position) (side : Side) (pat
   pub rule_unheard : applies ≡ false → c ≡ After
   rule_unheard a = none_considered_lem (unapplied_here file at side pattern k h applies a)
 
-  pub rule_not_readable : OneOf (0 ∷ 2 ∷ []) (tag_of P.the_type pattern) → c ≡ After
+  pub rule_not_readable : ((p : Place) (n : ℕ) → pattern ≡ Pattern.Readable p n → ⊥) → c ≡ After
   rule_not_readable o = none_considered_lem (unreadable_here file at side pattern k h applies o)
 
   module _ (p : Place) (n : ℕ) (g : pattern ≡ Pattern.Readable p n) where
     abbrev from : ℕ
     from = at.place.offset + p.offset
 
-    pub pattern_room : (scratch : List ℕ) → Room file path scratch at.place c → Fits (take (from + n - from) (drop from file)) path scratch c
-    pattern_room scratch room =
+    pub pattern_room : (v : List ℕ) → v ≡ octets_at file (place_at from) n → (scratch : List ℕ) → Room file path scratch at.place c → Fits v path scratch c
+    pattern_room v e scratch room =
         let size : length (octets_at file (place_at from) n) ≤ n = octets_most file (place_at from) n in
         let ends : from + n ≤ length file = pattern_inside file at side pattern k h applies p n g in
-        rw (pattern_read file at side pattern k h applies p n g)
+        rw e
         (record {
           short = room.short;
           lent = room.lent;

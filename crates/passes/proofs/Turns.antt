@@ -3,11 +3,9 @@ use Rattle.std.specs.Prelude.{if◌then◌else◌}
 use Prim.Native.Nat.{ℕ, ◌+◌, ◌*◌, ◌≤◌, ◌<◌}
 use mathlib.Core.Path.{◌≡◌, refl, sym, ap, ap₂, ◌∙◌}
 use mathlib.Core.Bool.{Bool, true, false, ◌&&◌, ◌||◌, false≢true}
-use mathlib.Core.List.{List, [], ◌∷◌, ◌++◌}
+use mathlib.Core.List.{List, ◌∷◌, ◌++◌}
 use mathlib.Core.Option.{none}
 use native.Mathlib.Omega.{arith}
-use types.Run.{OneOf, miss}
-use denote.Enum.Declared.{tag_of}
 use lib.Dec.{ltb}
 use lib.ListN.{length, drop}
 use borrow.Author.Tests.{ltb-true, ltb-false, not-true}
@@ -29,7 +27,6 @@ use Rattle.protocol.specs.Kinds.{kind_of, place_of, length_of, unreadable_kind}
 use Rattle.protocol.specs.Entries.{agent, rule, Entry, role_of, group_at, ruled_after, entry_of, entries_from, entries}
 use Rattle.protocol.specs.Rules.{value_of, rule_of, unreadable}
 use Rattle.protocol.proofs.FrontToBack.{lines_at, lines_next, lines_end, lines_all}
-use Rattle.protocol.specs.contracts.Kind as K
 use Rattle.lines.specs.Spans.{text_at, next_at}
 use Rattle.lines.specs.Skips.{agent_octet, endings, between, next_agent, PassedOver}
 use Rattle.kinds.specs.Entries.{entry_kind}
@@ -176,7 +173,7 @@ module _ (d : Dialect) (file who path : List ℕ) (whole : Bool) (heard : Hearin
         )
 
     -- a line that is no rule line
-    left_other : (k : Kind) → k ≡ entry_kind (kind file p h) → OneOf (0 ∷ 1 ∷ 2 ∷ 3 ∷ []) (tag_of K.the_type k)
+    left_other : (k : Kind) → k ≡ entry_kind (kind file p h) → ((side : Side) (q : Pattern) → k ≡ Kind.Rule side q → ⊥)
         → Left d file who path whole (heard_other file who p.place k heard) c (line_behind file r) g
     unfolding gathered_from considered_all rule_heard entry_of role_of
     left_other k e o =
@@ -188,14 +185,14 @@ module _ (d : Dialect) (file who path : List ℕ) (whole : Bool) (heard : Hearin
             ≡ entry_of (group_at above ruled (role_of (kind file p h))) (here file p h) (kind file p h) (role_of (kind file p h))
         told above ruled = rw e (entry_of_lem above ruled (here file p h) (kind file p h))
 
-        go : (es : List Entry) (above : ℕ) (ruled : Bool) (k : Kind) → OneOf (0 ∷ 1 ∷ 2 ∷ 3 ∷ []) (tag_of K.the_type k)
+        go : (es : List Entry) (above : ℕ) (ruled : Bool) (k : Kind) → ((side : Side) (q : Pattern) → k ≡ Kind.Rule side q → ⊥)
             → gathered_from d file who path (heard_other file who p.place k heard) c es
             ≡ gathered_from d file who path heard c (entry_of (group_at above ruled (role_of k)) (here file p h) k (role_of k) ++ es)
         go es above ruled Kind.Blank o = refl
         go es above ruled Kind.Noise o = refl
         go es above ruled Kind.Other o = refl
         go es above ruled (Kind.Agent a) o = refl
-        go es above ruled (Kind.Rule side q) o = absurd (miss (0 ∷ 1 ∷ 2 ∷ 3 ∷ []) 4 tt o)
+        go es above ruled (Kind.Rule side q) o = absurd (o side q refl)
 
     -- a rule line
     left_rule : (side : Side) (q : Pattern) → Kind.Rule side q ≡ kind file p h
@@ -295,11 +292,11 @@ skipped_unheard file who p q false h alone j =
     ∙ jumped_on (unheard file who) file p (next_agent file p.place) q j
 
 -- after a line that is no rule line: not an agent line,
-pub other_unheard : (file who : List ℕ) (p : Place) (k : Kind) (h : Hearing) → OneOf (0 ∷ 1 ∷ 2 ∷ 4 ∷ []) (tag_of K.the_type k) → h ≡ heard_other file who p k h
+pub other_unheard : (file who : List ℕ) (p : Place) (k : Kind) (h : Hearing) → ((a : Agent) → k ≡ Kind.Agent a → ⊥) → h ≡ heard_other file who p k h
 other_unheard file who p Kind.Blank h o = refl
 other_unheard file who p Kind.Noise h o = refl
 other_unheard file who p Kind.Other h o = refl
-other_unheard file who p (Kind.Agent a) h o = absurd (miss (0 ∷ 1 ∷ 2 ∷ 4 ∷ []) 3 tt o)
+other_unheard file who p (Kind.Agent a) h o = absurd (o a refl)
 other_unheard file who p (Kind.Rule side q) h o = refl
 
 -- or an agent line
@@ -385,7 +382,7 @@ module _ (d : Dialect) (file who path scratch₀ scratch : List ℕ) (whole only
   alone_past w o i = behind_alone file who (line_behind file r) (past.named who ∙ now.alone w o h) i
 
   -- past a line that is no rule line, to the next line,
-  module _ (o : OneOf (0 ∷ 1 ∷ 2 ∷ 3 ∷ []) (tag_of K.the_type k)) (heard' : Hearing) (t : heard' ≡ heard_other file who p.place k heard) where
+  module _ (o : (side : Side) (q : Pattern) → k ≡ Kind.Rule side q → ⊥) (heard' : Hearing) (t : heard' ≡ heard_other file who p.place k heard) where
     left_here : Left d file who path whole heard' c (line_behind file r) g
     left_here = rw t (left_other d file who path whole heard c p g now.left h r past k s o)
 

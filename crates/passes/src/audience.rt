@@ -5,64 +5,60 @@ ghost use Rattle.lists.specs.Lists.{same};
 ghost use Rattle.protocol.specs.Readable.{everyone};
 ghost use Rattle.protocol.specs.Entries.{entries};
 ghost use Rattle.protocol.specs.Rules.{audience};
-ghost use Rattle.protocol.specs.Classes.{class_table};
 ghost use Rattle.kinds.specs.Entries.{value_front};
 ghost use Rattle.hearing.specs.Heard.{addressed};
 ghost use Rattle.passes.specs.Entries.{line_audience};
 ghost use Rattle.passes.specs.Choosing.{after_line, ChosenOf};
 
-use fields::Field;
-use protocol::{Audience, ClassTable, Place};
+use octets::Classes;
+use protocol::{Audience, Place};
 
 // The value that a text begins with is "*".
-fn is_star(classes: &ClassTable, s: &[u8]) -> bool
-    requires { classes.now ≡ class_table }
+fn is_star(classes: &Classes, s: &[u8]) -> bool
     ensures { result ≡ same (value_front s.now) everyone }
 {
-    if s.len() == 0 {
+    let [first, rest @ ..] = s else {
+        return false;
+    };
+    if *first != b'*' {
         return false;
     }
-    if s[0] != b'*' {
-        return false;
-    }
-    let end = 1 + text::lead(classes, &s[1..]);
-    kinds::line::ends_at(classes, s, Place { offset: end })
+    let end = text::lead(classes, rest);
+    kinds::line::ends_at(classes, rest, Place { offset: end })
 }
 
 // Whom the value that a text begins with names. Where a name ends is told by the octet behind it, so the value's end isn't looked for.
-fn value_audience(classes: &ClassTable, name: &[u8], s: &[u8]) -> Audience
-    requires { classes.now ≡ class_table }
+fn value_audience(classes: &Classes, name: &[u8], s: &[u8]) -> Audience
     ensures { result ≡ addressed name.now (value_front s.now) }
 {
     if is_star(classes, s) {
         if readable::is_everyone(name) {
-            return Audience::Crawler;
+            Audience::Crawler
+        } else {
+            Audience::Everyone
         }
-        return Audience::Everyone;
+    } else if readable::names(classes, s, name) {
+        Audience::Crawler
+    } else {
+        Audience::Nobody
     }
-    if readable::names(classes, s, name) {
-        return Audience::Crawler;
-    }
-    Audience::Nobody
 }
 
 // Whom the line that begins at `at` names.
-fn line_audience(classes: &ClassTable, file: &[u8], at: Place, name: &[u8]) -> Audience
-    requires { (classes.now ≡ class_table) × (at.offset ≤ length file.now) }
+fn line_audience(classes: &Classes, file: &[u8], at: Place, name: &[u8]) -> Audience
+    requires { at.offset ≤ length file.now }
     ensures { result ≡ line_audience file.now name.now at }
 {
     let start = at.offset;
     let rest = &file[start..];
-    let head = fields::near::agent_head(classes, rest);
-    let field = head.field;
-    let Field::Agent = field else {
+    let Some(value) = fields::near::agent_head(classes, rest) else {
         return Audience::Nobody;
     };
-    let value = head.value.offset;
-    value_audience(classes, name, &rest[value..])
+    value_audience(classes, name, &rest[value.offset..])
 }
 
-// Whose groups apply; where the first line that names them begins, or the file's end; and whether it is known that no other line does.
+// Whose groups apply; where the first line that names them begins, or the file's end; and whether it is known that no other line does. The end is no
+// place that is missing: from there on nothing is read.
 #[derive(Clone, Copy)]
 pub struct Chosen {
     pub audience: Audience,
@@ -74,16 +70,13 @@ pub struct Chosen {
 fn after_line(chosen: Chosen, here: Audience, at: Place) -> Chosen
     ensures { result ≡ after_line chosen.audience here at chosen }
 {
-    let Audience::Everyone = here else {
+    if here != Audience::Everyone {
         return chosen;
-    };
-    let audience = chosen.audience;
-    if let Audience::Everyone = audience {
-        let first = chosen.first;
+    }
+    if chosen.audience == Audience::Everyone {
         return Chosen {
-            audience,
-            first,
             only: false,
+            ..chosen
         };
     }
     Chosen {
@@ -94,8 +87,7 @@ fn after_line(chosen: Chosen, here: Audience, at: Place) -> Chosen
 }
 
 // The first agent line that names the crawler tells; otherwise it matters whether one names "*".
-pub fn choose_audience(classes: &ClassTable, file: &[u8], name: &[u8]) -> Chosen
-    requires { classes.now ≡ class_table }
+pub fn choose_audience(classes: &Classes, file: &[u8], name: &[u8]) -> Chosen
     ensures { ChosenOf file.now name.now (audience file.now (entries file.now) name.now) result }
 {
     let mut chosen = Chosen {
@@ -104,9 +96,10 @@ pub fn choose_audience(classes: &ClassTable, file: &[u8], name: &[u8]) -> Chosen
         only: true,
     };
     let mut at = lines::span::first_place(file);
+    // No `for`: a turn finds where the next begins.
     while at.offset < file.len() {
         let here = line_audience(classes, file, at, name);
-        if let Audience::Crawler = here {
+        if here == Audience::Crawler {
             return Chosen {
                 audience: here,
                 first: at,

@@ -1,4 +1,4 @@
-// Lines of a file: the first and the next one, and the value of a line that begins at `at` and is of that kind, for a pass over the file.
+// Lines of a file: the first and the next one, the value of a line that begins at `at` and is of that kind, and a rule line's rule.
 
 ghost use Rattle.std.specs.Prelude.{◌≡◌, ◌+◌, ◌≤◌, ◌<◌, ◌^◌, length};
 ghost use Rattle.protocol.specs.Lines.{line_number, place_at, number_after, skipped};
@@ -7,7 +7,7 @@ ghost use Rattle.lines.specs.Spans.{text_at};
 ghost use Rattle.kinds.specs.Entries.{entry_kind};
 ghost use Rattle.passes.specs.Entries.{line_value, value_end};
 
-use protocol::{Kind, LineNumber, Place, Position};
+use protocol::{Kind, LineNumber, Place, Position, Rule, Side};
 
 // The first line.
 pub fn first_line(file: &[u8]) -> Position
@@ -48,8 +48,22 @@ pub fn value_of(file: &[u8], at: Place, kind: Kind) -> &[u8]
     requires { (at.offset ≤ length file.now) × (kind ≡ entry_kind (kind_of (text_at file.now at))) }
     ensures { result.now ≡ line_value file.now at kind }
 {
-    let last = value_end(file, at, kind);
-    let end = last.offset;
+    let end = value_end(file, at, kind).offset;
     let start = end - numbers::length_of(kind);
     &file[start..end]
+}
+
+// The rule of a rule line at `at` whose pattern stands at that place of the line.
+pub fn rule_of(at: Position, side: Side, place: Place, length: usize) -> Rule
+    requires { at.place.offset + place.offset < 2 ^ 64 }
+    ensures { result ≡ record { line = at.number; side = side; place = place_at (at.place.offset + place.offset); length = length } }
+{
+    Rule {
+        line: at.number,
+        side,
+        place: Place {
+            offset: at.place.offset + place.offset,
+        },
+        length,
+    }
 }

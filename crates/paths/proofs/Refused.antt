@@ -6,9 +6,10 @@ use mathlib.Core.Bool.{Bool, true, not}
 use mathlib.Core.List.{List, [], ◌∷◌}
 use native.Mathlib.Omega.{arith}
 use lib.Dec.{leb, eqb}
-use lib.ListN.{length, get_or}
+use lib.ListN.{length, get_or, drop}
 use borrow.Author.Tests.{eqb-true, eq-eqb, ne_eqb, lt-ltb, le-ltb, le-leb, leb-true, leb-false}
-use Rattle.lists.specs.Lists.{any}
+use Rattle.lists.specs.Lists.{any, up_to}
+use Rattle.lists.proofs.Cuts.{any_behind}
 use Rattle.lists.proofs.Bools.{split}
 use Rattle.protocol.specs.Text.{begins}
 use Rattle.protocol.specs.Normal.{normal_path}
@@ -47,6 +48,10 @@ low_outside x h =
     let low : x ≤ 35 =
     split (leb x 0x20) (λ e. omega (arith, leb-true x 0x20 e)) (λ e. omega (arith, eqb-true x 35 (rw e at h)))
     in rw (le-leb 0 x (omega arith), le-leb x 35 low)
+
+-- where octets up to "#" are looked for in front, those behind tell
+pub front_passed : (path : List ℕ) (n : ℕ) → n ≤ length (up_to (among 0 35 true) path) → any outside_path (drop n path) ≡ any outside_path path
+front_passed path n h = any_behind outside_path (among 0 35 true) low_outside n path h
 
 -- a path that no row of its own refuses is refused for want of room
 module _ (room : ℕ) (path : List ℕ) where

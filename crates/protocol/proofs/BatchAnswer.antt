@@ -10,7 +10,7 @@ use lib.Seq.{length-take-le, take-append_seam, drop-append_seam, drop_at, drop-d
 use borrow.Author.Tests.{eq-eqb, ne_eqb, le-ltb, lt-ltb, ltb-false, eqb-true, not-false}
 use Rattle.lists.proofs.Bools.{or_left, or_right}
 use Rattle.lists.proofs.Scans.{map_at}
-use Rattle.protocol.specs.declared.Decision.{Decision}
+use Rattle.protocol.specs.Forms.{Decision}
 use Rattle.protocol.specs.declared.Dialect.{Dialect}
 use Rattle.protocol.specs.Lines.{place_at}
 use Rattle.protocol.specs.Text.{octets_at}

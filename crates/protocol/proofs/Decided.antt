@@ -15,7 +15,7 @@ use Rattle.lists.proofs.Members.{each_member, kept_kept, ascending_member, ascen
 use Rattle.protocol.specs.declared.Dialect.{Dialect}
 use Rattle.protocol.specs.declared.LineNumber.{LineNumber}
 use Rattle.protocol.specs.declared.Side.{Side}
-use Rattle.protocol.specs.declared.Decision.{Decision}
+use Rattle.protocol.specs.Forms.{Decision}
 use Rattle.protocol.specs.Lines.{line_number}
 use Rattle.protocol.specs.Readable.{readable_pattern}
 use Rattle.protocol.specs.Entries.{Entry}

@@ -10,7 +10,7 @@ use Rattle.lists.specs.Lists.{total}
 use Rattle.protocol.specs.declared.Dialect.{Dialect}
 use Rattle.protocol.specs.declared.Side.{Side}
 use Rattle.protocol.specs.declared.Rule.{Rule}
-use Rattle.protocol.specs.declared.Decision.{Decision}
+use Rattle.protocol.specs.Forms.{Decision}
 use Rattle.protocol.specs.Lines.{line_number}
 use Rattle.protocol.specs.Normal.{normal_path}
 use Rattle.protocol.specs.Entries.{Entry, entries}

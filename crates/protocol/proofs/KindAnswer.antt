@@ -2,7 +2,7 @@
 use Prim.Native.Nat.{ℕ}
 use mathlib.Core.Path.{◌≡◌, refl, sym}
 use mathlib.Core.List.{List}
-use Rattle.protocol.specs.declared.LineAnswer.{LineAnswer}
+use Rattle.protocol.specs.Forms.{LineAnswer}
 use Rattle.protocol.specs.Kinds.{kind_of}
 use Rattle.protocol.specs.Refusals.{line_rows, line_refusal}
 use Rattle.protocol.specs.Answers.{line_answer, refusal_of}

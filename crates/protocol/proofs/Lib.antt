@@ -1,3 +1,4 @@
+pub mod Outcomes
 pub mod Computing
 pub mod Examples
 pub mod FrontToBack

@@ -9,7 +9,7 @@ use lib.Dec.{leb, ltb}
 use lib.ListN.{length}
 use borrow.Author.Tests.{lt-ltb, le-ltb, ltb-false, leb-true, leb-false}
 use Rattle.lists.proofs.Bools.{split}
-use Rattle.protocol.specs.declared.Decision.{Decision}
+use Rattle.protocol.specs.Forms.{Decision}
 use Rattle.protocol.specs.Octets.{is}
 use Rattle.protocol.specs.Text.{begins}
 use Rattle.protocol.specs.Normal.{normal_path}

@@ -6,7 +6,7 @@ use mathlib.Core.Logic.{◌↔◌}
 use mathlib.Core.List.{List}
 use native.Mathlib.Omega.{arith}
 use lib.ListN.{length}
-use Rattle.protocol.specs.declared.Matched.{Matched}
+use Rattle.protocol.specs.Forms.{Matched}
 use Rattle.protocol.specs.Normal.{normal_path}
 use Rattle.protocol.specs.Pattern.{shape_of, weight}
 use Rattle.protocol.specs.Matching.{Matches}

@@ -6,10 +6,10 @@ use Rattle.protocol.specs.declared.Agent.{Agent}
 use Rattle.protocol.specs.declared.Pattern.{Pattern}
 use Rattle.protocol.specs.declared.Kind.{Kind}
 use Rattle.protocol.specs.declared.Walked.{Walked}
-use Rattle.protocol.specs.declared.Decision.{Decision}
-use Rattle.protocol.specs.declared.Matched.{Matched}
-use Rattle.protocol.specs.declared.Normalised.{Normalised}
-use Rattle.protocol.specs.declared.LineAnswer.{LineAnswer}
+use Rattle.protocol.specs.Forms.{Decision}
+use Rattle.protocol.specs.Forms.{Matched}
+use Rattle.protocol.specs.Forms.{Normalised}
+use Rattle.protocol.specs.Forms.{LineAnswer}
 use Rattle.protocol.specs.Lines.{line_number, place_at}
 use Rattle.protocol.specs.Kinds.{kind_of, place_of, length_of}
 use Rattle.protocol.specs.Entries.{entries}

@@ -1,6 +1,6 @@
 -- M-101, "The morning list": many paths against one file and one name, in one call. Assumes nothing.
 use Rattle.std.specs.Prelude.{ℕ, ◌-◌, List, [], ◌∷◌, map}
-use Rattle.protocol.specs.declared.Decision.{Decision}
+use Rattle.protocol.specs.Forms.{Decision}
 use Rattle.protocol.specs.Lines.{place_at}
 use Rattle.protocol.specs.Text.{octets_at}
 use Rattle.protocol.specs.Refusals.{Row, unknown_dialect, too_long, bad_name, bad_ends, short_answers, refusal, unless_refused}

@@ -6,7 +6,7 @@ use Rattle.lists.specs.Lists.{kept, through, total, same}
 use Rattle.protocol.specs.declared.Dialect.{Dialect}
 use Rattle.protocol.specs.declared.Side.{Side}
 use Rattle.protocol.specs.declared.Walked.{Walked}
-use Rattle.protocol.specs.declared.Decision.{Decision}
+use Rattle.protocol.specs.Forms.{Decision}
 use Rattle.protocol.specs.Text.{octets, octets_at}
 use Rattle.protocol.specs.Lines.{line_number, place_at}
 use Rattle.protocol.specs.Readable.{readable_pattern}

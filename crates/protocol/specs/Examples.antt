@@ -3,7 +3,7 @@ use Rattle.std.specs.Prelude.{ℕ, List, [], ◌∷◌, ◌++◌, map, if◌then
 use Prim.Native.Char.{code}
 use Prim.Native.String.{String}
 use Rattle.protocol.specs.declared.Side.{Side}
-use Rattle.protocol.specs.declared.Decision.{Decision}
+use Rattle.protocol.specs.Forms.{Decision}
 use Rattle.protocol.specs.Octets.{is}
 use Rattle.protocol.specs.Text.{octets}
 use Rattle.protocol.specs.Answers.{decide}

@@ -11,9 +11,11 @@ pub mod Matching
 pub mod Walk
 pub mod Starts
 pub mod Refusals
+pub mod Forms
 pub mod Classes
 pub mod Decision
 pub mod Answers
+pub mod Outcomes
 pub mod Batch
 pub mod Meaning
 pub mod Program

@@ -6,7 +6,7 @@ use Rattle.lists.specs.Lists.{all, any}
 use Rattle.lists.specs.Each.{Each}
 use Rattle.protocol.specs.declared.Dialect.{Dialect}
 use Rattle.protocol.specs.declared.Side.{Side}
-use Rattle.protocol.specs.declared.Decision.{Decision}
+use Rattle.protocol.specs.Forms.{Decision}
 use Rattle.protocol.specs.Lines.{line_number, place_at}
 use Rattle.protocol.specs.Octets.{token}
 use Rattle.protocol.specs.Text.{same_ignoring_case}

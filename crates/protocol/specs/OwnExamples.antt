@@ -5,7 +5,7 @@ use Prim.Native.Char.{code}
 use Prim.Native.String.{String}
 use Rattle.lists.specs.Lists.{kept, numbers_from}
 use Rattle.protocol.specs.declared.Side.{Side}
-use Rattle.protocol.specs.declared.Matched.{Matched}
+use Rattle.protocol.specs.Forms.{Matched}
 use Rattle.protocol.specs.declared.Walked.{Walked}
 use Rattle.protocol.specs.Octets.{token, unreserved, hex, blank, line_end, lower_case, upper_case, hex_value, hex_digit}
 use Rattle.protocol.specs.Text.{octets}

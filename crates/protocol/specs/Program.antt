@@ -4,7 +4,7 @@ use Prim.Native.Char.{code}
 use mathlib.Core.List.{List, [], ◌∷◌, ◌++◌, tail}
 use Rattle.lists.specs.Lists.{up_to, from}
 use Rattle.protocol.specs.declared.Side.{Side}
-use Rattle.protocol.specs.declared.Decision.{Decision}
+use Rattle.protocol.specs.Forms.{Decision}
 use Rattle.protocol.specs.Octets.{is}
 use Rattle.protocol.specs.Text.{octets}
 use Rattle.protocol.specs.Refusals.{Row, input_too_long, decide_rows, refusal, unless_refused}

@@ -2,11 +2,15 @@
 
 #![tactic(auto)]
 
+ghost use Rattle.std.specs.Prelude.{◌≡◌};
+ghost use Rattle.protocol.specs.Answers.{side_number};
+ghost use Rattle.protocol.specs.Outcomes.{refusal_number, Chosen};
+
 // The table of the octets' class numbers, one for each octet.
 pub type ClassTable = [u8; 256];
 
 // A sort of octets that the code asks for.
-#[derive(Clone, Copy)]
+#[derive(Clone, Copy, PartialEq, Eq)]
 pub enum Sort {
     Token,
     Unreserved,
@@ -18,13 +22,13 @@ pub enum Sort {
 }
 
 // The number of a line, counted from 1; 0 stands for no line.
-#[derive(Clone, Copy)]
+#[derive(Clone, Copy, PartialEq, Eq)]
 pub struct LineNumber {
     pub number: usize,
 }
 
 // The place of an octet in a file or in a line, counted from 0.
-#[derive(Clone, Copy)]
+#[derive(Clone, Copy, PartialEq, Eq)]
 pub struct Place {
     pub offset: usize,
 }
@@ -37,7 +41,7 @@ pub struct Position {
 }
 
 // The side of a rule, and of a decision.
-#[derive(Clone, Copy)]
+#[derive(Clone, Copy, PartialEq, Eq)]
 pub enum Side {
     Allow,
     Disallow,
@@ -53,14 +57,14 @@ pub struct Rule {
 }
 
 // The paper whose rules decide: RFC 9309, or the draft of 1996.
-#[derive(Clone, Copy)]
+#[derive(Clone, Copy, PartialEq, Eq)]
 pub enum Dialect {
     Rfc9309,
     Draft1996,
 }
 
 // Whose groups apply: those that name the crawler, those of "*", or nobody's.
-#[derive(Clone, Copy)]
+#[derive(Clone, Copy, PartialEq, Eq)]
 pub enum Audience {
     Crawler,
     Everyone,
@@ -68,14 +72,14 @@ pub enum Audience {
 }
 
 // The value of an agent line, with its place and length: 0 and 0 where it is empty.
-#[derive(Clone, Copy)]
+#[derive(Clone, Copy, PartialEq, Eq)]
 pub enum Agent {
     Readable(Place, usize),
     Unreadable(Place, usize),
 }
 
 // The pattern of a rule line, with its place and length.
-#[derive(Clone, Copy)]
+#[derive(Clone, Copy, PartialEq, Eq)]
 pub enum Pattern {
     Empty,
     Readable(Place, usize),
@@ -83,7 +87,7 @@ pub enum Pattern {
 }
 
 // The kind of a line.
-#[derive(Clone, Copy)]
+#[derive(Clone, Copy, PartialEq, Eq)]
 pub enum Kind {
     Blank,
     // Document 01's own term: something is left of the line, and no colon is in it.
@@ -93,7 +97,8 @@ pub enum Kind {
     Rule(Side, Pattern),
 }
 
-// One try of a run at one place of a path: whether no pair of octets differed, and the pairs compared so far.
+// One try of a run at one place of a path: whether no pair of octets differed, and the pairs compared so far, which are meant in both cases. It is
+// the record of the definition `tried`, as that below is `walk`'s.
 #[derive(Clone, Copy)]
 pub struct Tried {
     pub stood: bool,
@@ -108,10 +113,9 @@ pub struct Walked {
     pub count: usize,
 }
 
-// The answer to: decide for a file, a name and a path.
+// A decision that isn't refused: its side, and the deciding rule's line, place and length.
 #[derive(Clone, Copy)]
-pub struct Decision {
-    pub refusal: usize,
+pub struct Verdict {
     pub side: Side,
     pub line: LineNumber,
     pub place: Place,
@@ -121,26 +125,57 @@ pub struct Decision {
     pub compared: usize,
 }
 
-// The answer to: match one pattern against one path.
-#[derive(Clone, Copy)]
-pub struct Matched {
-    pub refusal: usize,
-    pub found: bool,
-    pub compared: usize,
+// Why a question is refused, with document 01's numbers.
+#[derive(Clone, Copy, PartialEq, Eq)]
+pub enum Refusal {
+    TooLong = 1,
+    BadName = 2,
+    BadLength = 3,
+    BadStart = 4,
+    BadOctet = 5,
+    NoRoom = 6,
+    InputTooLong = 7,
+    BadPattern = 8,
+    SeveralLines = 9,
+    BadEnds = 12,
+    ShortAnswers = 13,
+    UnknownDialect = 20,
 }
 
-// The answer to: normalise a path into a lent buffer.
-#[derive(Clone, Copy)]
-pub struct Normalised {
-    pub refusal: usize,
-    pub written: usize,
+impl Refusal {
+    // Its number in the table of refusals.
+    pub fn number(self) -> usize
+        ensures { result ≡ refusal_number self }
+    {
+        self as usize
+    }
 }
 
-// The answer to: tell the kind of one line.
-#[derive(Clone, Copy)]
-pub enum LineAnswer {
-    Refused(usize),
-    Kind(Kind),
+// Allow or disallow, where a number is wanted.
+impl From<Side> for usize {
+    ghost from_gives = { λ side n. n ≡ side_number side };
+
+    fn from(side: Side) -> usize {
+        match side {
+            Side::Allow => 0,
+            Side::Disallow => 1,
+        }
+    }
+}
+
+// The dialect of a number.
+impl TryFrom<usize> for Dialect {
+    type Error = Refusal;
+
+    ghost try_from_gives = { Chosen };
+
+    fn try_from(number: usize) -> Result<Self, Refusal> {
+        match number {
+            0 => Ok(Dialect::Rfc9309),
+            1 => Ok(Dialect::Draft1996),
+            _ => Err(Refusal::UnknownDialect),
+        }
+    }
 }
 
 // The names of the fields that the protocol knows: one to a row, in lower case, zeros behind it.

@@ -1,3 +1,2 @@
 pub mod Characters
 pub mod Naming
-pub mod BadNames

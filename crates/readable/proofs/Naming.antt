@@ -13,7 +13,7 @@ use Rattle.lists.proofs.Scans.{drop_one}
 use Rattle.lists.proofs.Tests.{empty_none, empty_some, empty_known}
 use Rattle.lists.proofs.Fronts.{front_passes, front_append}
 use Rattle.protocol.specs.Octets.{token}
-use Rattle.protocol.specs.Text.{octets, same_ignoring_case}
+use Rattle.protocol.specs.Text.{same_ignoring_case}
 use Rattle.protocol.specs.Readable.{everyone, name_front, agent_name, readable_agent, names}
 use Rattle.protocol.proofs.Texts.{case_lengths, case_tokens}
 use Rattle.protocol.proofs.Agents.{agent_begins, whole_compared}
@@ -36,20 +36,11 @@ begun v who = same_ignoring_case (take (length who) v) who
 abbrev pub is_name : List ℕ → Bool
 is_name who = not (empty who) && all token who
 
--- a value that is exactly "*"
-pub star_readable : (v : List ℕ) → same v everyone ≡ true → true ≡ readable_agent v
-unfolding readable_agent agent_name octets
-star_readable v e = rw e
-
--- and one that isn't
+-- a value that isn't exactly "*"
 module _ (v : List ℕ) (e : same v everyone ≡ false) where
   other_name : agent_name v ≡ name_front v
   unfolding agent_name
   other_name = rw e
-
-  pub other_readable : not (empty (name_front v)) ≡ readable_agent v
-  unfolding readable_agent
-  other_readable = rw other_name
 
   module _ (who : List ℕ) where
     -- it names only whom it begins with

@@ -4,14 +4,16 @@
 #![tactic(auto)]
 
 ghost use Rattle.std.specs.Prelude.{◌≡◌, ◌&&◌, not, [], length, drop};
-ghost use Rattle.lists.specs.Lists.{empty, all, up_to, same};
+ghost use Rattle.std.specs.List.{list_all};
+ghost use Rattle.lists.specs.Lists.{empty, up_to, same};
 ghost use Rattle.protocol.specs.Octets.{token};
-ghost use Rattle.protocol.specs.Readable.{everyone, name_front, readable_agent, names, character_forms, due_after, well_formed, pattern_start, readable_pattern};
+ghost use Rattle.protocol.specs.Readable.{everyone, name_front, readable_agent, names, well_formed, pattern_start, readable_pattern};
+ghost use Rattle.protocol.specs.Classes.{class_forms, due_up_to};
 ghost use Rattle.protocol.specs.Refusals.{bad_name};
-ghost use Rattle.protocol.specs.Classes.{class_table};
 ghost use Rattle.readable.specs.Due.{due_ranges, due_past, unusual};
 
-use protocol::{ClassTable, Place, Sort};
+use octets::Classes;
+use protocol::{Place, Sort};
 
 // The octets that a character still lacks: `more` of them, the next from `low` to `high`, those behind it UTF8-tails.
 #[derive(Clone, Copy)]
@@ -21,181 +23,155 @@ struct Due {
     more: usize,
 }
 
-fn due_octets(low: u8, high: u8, more: usize) -> Due
-    ensures { result ≡ record { low = low; high = high; more = more } }
-{
-    Due { low, high, more }
-}
+impl Due {
+    // Nothing: the character is whole.
+    const NONE: Due = Due {
+        low: 0,
+        high: 0,
+        more: 0,
+    };
 
-// No octet is from 1 to 0: nothing makes it whole.
-fn never_due() -> Due
-    ensures { result ≡ record { low = 1; high = 0; more = 1 } }
-{
-    due_octets(1, 0, 1)
-}
+    // No octet is from 1 to 0: nothing makes it whole.
+    const NEVER: Due = Due {
+        low: 1,
+        high: 0,
+        more: 1,
+    };
 
-// After the first octet of a character, by its class number: RFC 9309's UTF8-char-noctl.
-fn due_after(classes: &ClassTable, x: u8) -> Due
-    requires { classes.now ≡ class_table }
-    ensures { due_ranges result ≡ due_after x character_forms }
-{
-    match octets::class_of(classes, x) {
-        0..=66 => due_octets(0, 0, 0),
-        67..=96 => due_octets(0x80, 0xBF, 1),
-        97 => due_octets(0xA0, 0xBF, 2),
-        98..=111 => due_octets(0x80, 0xBF, 2),
-        112 => due_octets(0x80, 0x9F, 2),
-        113 => due_octets(0x90, 0xBF, 3),
-        114..=116 => due_octets(0x80, 0xBF, 3),
-        117 => due_octets(0x80, 0x8F, 3),
-        226 => due_octets(0, 0, 0),
-        _ => never_due(),
+    // The next octet is from `low` to `high`, and `more` in all are due.
+    fn new(low: u8, high: u8, more: usize) -> Due
+        ensures { result ≡ record { low = low; high = high; more = more } }
+    {
+        Due { low, high, more }
     }
-}
 
-// After one octet more.
-fn due_past(classes: &ClassTable, due: Due, x: u8) -> Due
-    requires { classes.now ≡ class_table }
-    ensures { due_ranges result ≡ due_past (due_ranges due) x }
-{
-    if due.more == 0 {
-        return due_after(classes, x);
+    // After the first octet of a character, by its class number: RFC 9309's UTF8-char-noctl.
+    #[tactic(auto, using(std::proofs::lemmas::Bool::Decides::nat_tests), unfolding(protocol::specs::Classes::class_forms, protocol::specs::Classes::due_up_to))]
+    fn after(class: u8) -> Due
+        ensures { due_ranges result ≡ due_up_to class class_forms }
+    {
+        match class {
+            0..=66 | 226 => Due::NONE,
+            67..=96 => Due::new(0x80, 0xBF, 1),
+            97 => Due::new(0xA0, 0xBF, 2),
+            98..=111 => Due::new(0x80, 0xBF, 2),
+            112 => Due::new(0x80, 0x9F, 2),
+            113 => Due::new(0x90, 0xBF, 3),
+            114..=116 => Due::new(0x80, 0xBF, 3),
+            117 => Due::new(0x80, 0x8F, 3),
+            _ => Due::NEVER,
+        }
     }
-    if x < due.low {
-        return never_due();
+
+    // After one octet more.
+    #[tactic(auto, using(protocol::proofs::Classes::due_told, crate::proofs::Characters::past_none, crate::proofs::Characters::past_some, std::proofs::lemmas::Bool::Decides::nat_tests))]
+    fn past(self, classes: &Classes, x: u8) -> Due
+        ensures { due_ranges result ≡ due_past (due_ranges self) x }
+    {
+        if self.more == 0 {
+            Due::after(classes.class_of(x))
+        } else if (self.low..=self.high).contains(&x) {
+            Due::new(0x80, 0xBF, self.more - 1)
+        } else {
+            Due::NEVER
+        }
     }
-    if due.high < x {
-        return never_due();
-    }
-    due_octets(0x80, 0xBF, due.more - 1)
 }
 
 // How many ordinary octets stand in front.
 pub fn ordinary_front(s: &[u8]) -> usize
     ensures { result ≡ length (up_to unusual s.now) }
 {
-    let end = text::seek(s, Place { offset: 0 }, 0x24, 0x7F, false);
-    end.offset
+    text::seek(s, Place { offset: 0 }, 0x24, 0x7F, false).offset
 }
 
-// Whole characters only.
+// Whole characters only. The table is copied only for a text with other octets than the ordinary ones.
+#[tactic(auto, using(crate::proofs::Characters::well_formed_ordinary, crate::proofs::Characters::well_formed_front, crate::proofs::Characters::well_formed_on, crate::proofs::Characters::well_formed_end, lists::proofs::Scans::rest_of, lists::proofs::Scans::up_to_fits))]
 fn well_formed(s: &[u8]) -> bool
     ensures { result ≡ well_formed [] s.now }
 {
-    let mut due = due_octets(0, 0, 0);
-    let mut i = ordinary_front(s);
-    if i == s.len() {
+    let front = ordinary_front(s);
+    if front == s.len() {
         return true;
     }
-    let classes = octets::classes();
-    while i < s.len() {
-        due = due_past(&classes, due, s[i]);
-        i += 1;
+    let classes = Classes::new();
+    let mut due = Due::NONE;
+    for x in &s[front..] {
+        due = due.past(&classes, *x);
     }
     due.more == 0
 }
 
 // What a pattern may begin with.
+#[tactic(auto, unfolding(protocol::specs::Readable::pattern_start, protocol::specs::Text::begins))]
 pub fn pattern_start(p: &[u8]) -> bool
     ensures { result ≡ pattern_start p.now }
 {
-    if p.len() == 0 {
-        return false;
-    }
-    let x = p[0];
-    x == b'/' || x == b'*'
+    matches!(p.first(), Some(b'/' | b'*'))
 }
 
+#[tactic(auto, unfolding(protocol::specs::Readable::readable_pattern))]
 pub fn readable_pattern(p: &[u8]) -> bool
     ensures { result ≡ readable_pattern p.now }
 {
-    if pattern_start(p) {
-        return well_formed(p);
-    }
-    false
+    pattern_start(p) && well_formed(p)
 }
 
 // Octets of a crawler's name only, or none.
-fn all_token(classes: &ClassTable, s: &[u8]) -> bool
-    requires { classes.now ≡ class_table }
-    ensures { result ≡ all token s.now }
+fn all_token(classes: &Classes, s: &[u8]) -> bool
+    ensures { result ≡ list_all token s.now }
 {
-    let front = text::scan(classes, s, Sort::Token, false);
-    front == s.len()
+    s.iter().all(|x| classes.is_of(Sort::Token, *x))
 }
 
 // One or more of them.
-fn is_name(classes: &ClassTable, v: &[u8]) -> bool
-    requires { classes.now ≡ class_table }
-    ensures { result ≡ (not (empty v.now) && all token v.now) }
+fn is_name(classes: &Classes, v: &[u8]) -> bool
+    ensures { result ≡ (not (empty v.now) && list_all token v.now) }
 {
-    if v.len() == 0 {
-        return false;
-    }
-    all_token(classes, v)
+    !v.is_empty() && all_token(classes, v)
 }
 
 // The value "*".
-#[tactic(auto, using(lists::proofs::Tests::same_length, lists::proofs::Tests::same_one), unfolding(protocol::specs::Text::octets))]
+#[tactic(auto, using(lists::proofs::Library::same_is), unfolding(protocol::specs::Text::octets))]
 pub fn is_everyone(v: &[u8]) -> bool
     ensures { result ≡ same v.now everyone }
 {
-    if v.len() != 1 {
-        return false;
-    }
-    v[0] == b'*'
+    v == b"*".as_slice()
 }
 
 // No octet of a name stands there: a name that reaches so far ends in front of it.
-fn name_ends(classes: &ClassTable, v: &[u8], at: Place) -> bool
-    requires { classes.now ≡ class_table }
+#[tactic(auto, using(crate::proofs::Naming::ends_none, crate::proofs::Naming::ends_here))]
+fn name_ends(classes: &Classes, v: &[u8], at: Place) -> bool
     ensures { result ≡ empty (name_front (drop at.offset v.now)) }
 {
-    let i = at.offset;
-    if v.len() <= i {
-        return true;
-    }
-    !octets::is_of(classes, Sort::Token, v[i])
+    v.get(at.offset)
+        .is_none_or(|x| !classes.is_of(Sort::Token, *x))
 }
 
-pub fn readable_agent(classes: &ClassTable, v: &[u8]) -> bool
-    requires { classes.now ≡ class_table }
+#[tactic(auto, unfolding(protocol::specs::Readable::readable_agent, protocol::specs::Readable::agent_name, protocol::specs::Text::octets))]
+pub fn readable_agent(classes: &Classes, v: &[u8]) -> bool
     ensures { result ≡ readable_agent v.now }
 {
-    if is_everyone(v) {
-        return true;
-    }
-    !name_ends(classes, v, Place { offset: 0 })
+    is_everyone(v) || !name_ends(classes, v, Place { offset: 0 })
 }
 
 // An agent's value names a crawler, or "*". Octets that are equal to a name's are a name's, so the one behind them tells the rest.
-pub fn names(classes: &ClassTable, value: &[u8], who: &[u8]) -> bool
-    requires { classes.now ≡ class_table }
+#[tactic(auto, using(protocol::proofs::Agents::star_names, crate::proofs::Naming::names_begun, crate::proofs::Naming::names_named, crate::proofs::Naming::names_ended, lists::proofs::Library::all_is))]
+pub fn names(classes: &Classes, value: &[u8], who: &[u8]) -> bool
     ensures { result ≡ names value.now who.now }
 {
     if is_everyone(value) {
         return is_everyone(who);
     }
-    if !text::same::begins_with(classes, value, who) {
-        return false;
-    }
-    if !is_name(classes, who) {
-        return false;
-    }
-    name_ends(classes, value, Place { offset: who.len() })
+    text::same::begins_with(classes, value, who)
+        && is_name(classes, who)
+        && name_ends(classes, value, Place { offset: who.len() })
 }
 
 // A crawler's name that is refused.
-#[tactic(auto, using(crate::proofs::BadNames::name_empty, crate::proofs::BadNames::name_long, crate::proofs::BadNames::name_octets))]
-pub fn is_bad_name(classes: &ClassTable, name: &[u8]) -> bool
-    requires { classes.now ≡ class_table }
+#[tactic(auto, using(lists::proofs::Tests::empty_none, lists::proofs::Tests::empty_some, lists::proofs::Library::all_is, std::proofs::lemmas::Bool::Decides::nat_tests))]
+pub fn is_bad_name(classes: &Classes, name: &[u8]) -> bool
     ensures { result ≡ (bad_name name.now).given }
 {
-    if name.len() == 0 {
-        return true;
-    }
-    if 64 < name.len() {
-        return true;
-    }
-    !all_token(classes, name)
+    name.is_empty() || 64 < name.len() || !all_token(classes, name)
 }

@@ -4,23 +4,28 @@ use mathlib.Core.Path.{◌≡◌, refl, sym, ap, subst, ◌∙◌}
 use mathlib.Core.List.{List, [], ◌++◌, append_assoc, append-nil}
 use native.Mathlib.Omega.{arith}
 use lib.Dec.{ltb}
-use lib.ListN.{length, get_or, set}
+use lib.ListN.{length, set, take}
 use lib.Seq.{get_or-set_same, set-get_or}
 use borrow.Author.Tests.{ltb-true, ltb-false, eq-eqb, ne_eqb}
 use Rattle.lists.proofs.Bools.{split}
+use Rattle.std.specs.Prelude.{Result, Ok, Err, is_err, true, false}
 use Rattle.protocol.specs.declared.Dialect.{Dialect}
+use Rattle.protocol.specs.declared.Refusal.{Refusal}
+use Rattle.protocol.specs.Outcomes.{number_of}
+use Rattle.protocol.proofs.Outcomes.{refused_number}
 use Rattle.protocol.specs.declared.Rule.{Rule}
 use Rattle.protocol.specs.Normal.{normal_path}
 use Rattle.protocol.specs.Refusals.{path_rows, refusal}
-use Rattle.listing.specs.Listing.{start_at, path_at}
-use Rattle.listing.proofs.Ends.{start_next}
+use Rattle.listing.specs.Listing.{path_at}
 use Rattle.listing.proofs.Tails.{tail_refl, tail_trans, tail_set, set_other}
-use Rattle.tables.specs.Tables.{rules_from}
+use Rattle.tables.specs.declared.Kept.{Kept}
+use Rattle.tables.specs.Tables.{rules_of, rules_from}
 use Rattle.collecting.specs.declared.Pass.{Pass}
 use Rattle.collecting.specs.declared.Collected.{Collected}
 use Rattle.collecting.specs.Left.{left, Rounded}
 use Rattle.leading.specs.declared.Leader.{Leader}
-use Rattle.rounds.specs.Rounds.{Memory, Fits, Stays, leader_in, led_for, led_over, Placed, Round}
+use Rattle.listing.specs.Memory.{Memory, Fits, Stays}
+use Rattle.rounds.specs.Rounds.{leader_in, led_for, led_over, Placed, Round}
 use Rattle.rounds.proofs.Overs.{over_none, over_append}
 
 pub stays_refl : (n : ℕ) (m : Memory) → Stays n m m
@@ -38,10 +43,6 @@ stays_fits n a b f s =
       sides = omega (arith, f.sides, s.sides.same);
       lines = omega (arith, f.lines, s.lines.same);
     }
-
--- of more places than are asked for
-pub fewer_fit : (i n : ℕ) (m : Memory) → i ≤ n → Fits n m → Fits i m
-fewer_fit i n m h f = record { refusals = omega (arith, h, f.refusals); sides = omega (arith, h, f.sides); lines = omega (arith, h, f.lines) }
 
 -- one path of a round: the others stay
 module _ (d : Dialect) (file : List ℕ) (rs : List Rule) (path : List ℕ) (i n : ℕ) (m m' : Memory) (p : Placed d file rs path i m m') (h : i < n) (f : Fits n m) where
@@ -61,6 +62,15 @@ module _ (d : Dialect) (file : List ℕ) (rs : List Rule) (path : List ℕ) (i n
   pub placed_other : (j : ℕ) → (j ≡ i → ⊥) → leader_in m' j ≡ leader_in m j
   placed_other j o =
       rw (p.refusals, p.sides, p.lines, set_other m.refusals i j _ o, set_other m.sides i j _ o, set_other m.lines i j _ o)
+
+-- what is known of a refusal where there is an error, and where there is none
+pub refused_known : (r : Result (Unit {0}) Refusal) {n : ℕ} → number_of r ≡ n → is_err r ≡ true → n ≡ 0 → ⊥
+refused_known (Ok u) h e z = absurd (cc)
+refused_known (Err r) {n} h e z = refused_number r n h z
+
+pub answered_known : (r : Result (Unit {0}) Refusal) {n : ℕ} → number_of r ≡ n → is_err r ≡ false → n ≡ 0
+answered_known (Ok u) h e = sym h
+answered_known (Err r) h e = absurd (cc)
 
 -- a path that is refused, and one that isn't
 over_refused : (d : Dialect) (file : List ℕ) (rs : List Rule) (path : List ℕ) (l : Leader) → (refusal (path_rows path) ≡ 0 → ⊥) → led_over d file rs path l ≡ l
@@ -94,24 +104,17 @@ module _ (d : Dialect) (file : List ℕ) (rs : List Rule) (path : List ℕ) (i :
       }
 
 -- what holds where a round has come to place i: those in front have gone through its rules
-pub record Rounding (d : Dialect) (file : List ℕ) (rs : List Rule) (paths ends : List ℕ) (m₀ m : Memory) (start i : ℕ) : Type 0 where
-  pub begins : start ≡ start_at ends i
+pub record Rounding (d : Dialect) (file : List ℕ) (rs : List Rule) (paths ends : List ℕ) (m₀ m : Memory) (i : ℕ) : Type 0 where
   pub stays : Stays (length ends) m₀ m
   pub front : (j : ℕ) → j < i → j < length ends → leader_in m j ≡ led_over d file rs (path_at paths ends j) (leader_in m₀ j)
   pub back : (j : ℕ) → i ≤ j → leader_in m j ≡ leader_in m₀ j
 
-pub rounding_none : (d : Dialect) (file : List ℕ) (rs : List Rule) (paths ends : List ℕ) (m : Memory) → Rounding d file rs paths ends m m 0 0
-rounding_none d file rs paths ends m =
-    record { begins = refl; stays = stays_refl (length ends) m; front = λ j h l. absurd (omega (arith, h)); back = λ j h. refl }
-
-pub rounding_on : (d : Dialect) (file : List ℕ) (rs : List Rule) (paths ends : List ℕ) (m₀ m : Memory) (start i : ℕ) → Rounding d file rs paths ends m₀ m start i
-    → i < length ends → Fits (length ends) m₀ → (m' : Memory) (path : List ℕ) → path ≡ path_at paths ends i → Placed d file rs path i m m'
-    → Rounding d file rs paths ends m₀ m' (get_or ends i 0) (i + 1)
-rounding_on d file rs paths ends m₀ m start i r h f m' path e q =
+pub rounding_on : {d : Dialect} {file : List ℕ} {rs : List Rule} {paths ends : List ℕ} {m₀ m m' : Memory} {i : ℕ} {path : List ℕ} → Rounding d file rs paths ends m₀ m i
+    → i < length ends → Fits (length ends) m₀ → path ≡ path_at paths ends i → Placed d file rs path i m m' → Rounding d file rs paths ends m₀ m' (i + 1)
+rounding_on {d} {file} {rs} {paths} {ends} {m₀} {m} {m'} {i} r h f e q =
     let p : Placed d file rs (path_at paths ends i) i m m' = subst (λ (x : List ℕ). Placed d file rs x i m m') e q in
     let g : Fits (length ends) m = stays_fits (length ends) m₀ m f r.stays in
     record {
-      begins = sym (start_next ends i);
       stays = stays_trans (length ends) m₀ m m' r.stays (placed_stays d file rs (path_at paths ends i) i (length ends) m m' p h g);
       front =
           λ j k l.
@@ -125,9 +128,9 @@ rounding_on d file rs paths ends m₀ m start i r h f m' path e q =
       back = λ j k. placed_other d file rs (path_at paths ends i) i (length ends) m m' p h g j (λ z. omega (arith, z, k)) ∙ r.back j (omega (arith, k));
     }
 
-pub rounding_end : (d : Dialect) (file : List ℕ) (rs : List Rule) (paths ends : List ℕ) (m₀ m : Memory) (start i : ℕ) → Rounding d file rs paths ends m₀ m start i
+pub rounding_end : (d : Dialect) (file : List ℕ) (rs : List Rule) (paths ends : List ℕ) (m₀ m : Memory) (i : ℕ) → Rounding d file rs paths ends m₀ m i
     → length ends ≤ i → Round d file rs paths ends m₀ m
-rounding_end d file rs paths ends m₀ m start i r h = record { stays = r.stays; led = λ j l. r.front j (omega (arith, l, h)) l }
+rounding_end d file rs paths ends m₀ m i r h = record { stays = r.stays; led = λ j l. r.front j (omega (arith, l, h)) l }
 
 -- what holds between rounds: each path has gone through some rules, and the others of the file are left
 pub record Gone (d : Dialect) (file who paths ends : List ℕ) (first : Pass) (m₀ m : Memory) (p : Pass) : Type 0 where
@@ -146,10 +149,10 @@ gone_none d file who paths ends first m few =
       counted = few;
     }
 
-pub gone_on : (d : Dialect) (file who paths ends : List ℕ) (first : Pass) (m₀ m : Memory) (p : Pass) → Gone d file who paths ends first m₀ m p
-    → (before table : List ℕ) (c : Collected) → Rounded file who p before table c
-    → (m' : Memory) → Round d file (rules_from 0 c.count table) paths ends m m' → Gone d file who paths ends first m₀ m' c.pass
-gone_on d file who paths ends first m₀ m p g before table c t m' r =
+pub gone_on : {d : Dialect} {file who paths ends : List ℕ} {first p : Pass} {m₀ m m' : Memory} {before table : List Kept} {c : Collected}
+    → Gone d file who paths ends first m₀ m p → Rounded file who p before table c
+    → Round d file (rules_of (take c.count table)) paths ends m m' → Gone d file who paths ends first m₀ m' c.pass
+gone_on {d} {file} {who} {paths} {ends} {first} {p} {m₀} {m} {m'} {before} {table} {c} g t r =
     let rs : List Rule = rules_from 0 c.count table in
     record {
       done = g.done ++ rs;
@@ -166,8 +169,8 @@ gone_on d file who paths ends first m₀ m p g before table c t m' r =
       counted = t.counted;
     }
 
-pub gone_end : (d : Dialect) (file who paths ends : List ℕ) (first : Pass) (m₀ m : Memory) (p : Pass) → Gone d file who paths ends first m₀ m p
+pub gone_end : {d : Dialect} {file who paths ends : List ℕ} {first p : Pass} {m₀ m : Memory} → Gone d file who paths ends first m₀ m p
     → left file who p ≡ [] → Round d file (left file who first) paths ends m₀ m
-gone_end d file who paths ends first m₀ m p g e =
+gone_end {d} {file} {who} {paths} {ends} {first} {p} {m₀} {m} g e =
     let whole : g.done ≡ left file who first = sym (append-nil g.done) ∙ ap (λ (l : List Rule). g.done ++ l) (sym e) ∙ g.all in
     subst (λ (rs : List Rule). Round d file rs paths ends m₀ m) whole g.round

@@ -1,35 +1,15 @@
 -- What the lent memory holds of each path, from round to round. Assumes nothing.
-use Rattle.std.specs.Prelude.{ℕ, ◌≤◌, ◌<◌, ◌≡◌, List, eqb, length, get_or, set, if◌then◌else◌}
+use Rattle.std.specs.Prelude.{ℕ, ◌<◌, ◌≡◌, List, eqb, length, get_or, set, if◌then◌else◌}
 use Rattle.protocol.specs.declared.Dialect.{Dialect}
 use Rattle.protocol.specs.declared.Rule.{Rule}
 use Rattle.protocol.specs.Lines.{line_number}
 use Rattle.protocol.specs.Normal.{normal_path}
 use Rattle.protocol.specs.Refusals.{path_rows, refusal}
 use Rattle.protocol.specs.Decision.{is_robots_file}
-use Rattle.listing.specs.Listing.{path_at, Tail}
+use Rattle.listing.specs.Listing.{path_at}
+use Rattle.listing.specs.Memory.{Memory, Stays}
 use Rattle.leading.specs.declared.Leader.{Leader}
 use Rattle.leading.specs.Leading.{led_all}
-
--- the memory lent for the answers
-pub record Memory : Type 0 where
-  pub refusals : List ℕ
-  pub sides : List ℕ
-  pub lines : List ℕ
-
-abbrev pub memory : List ℕ → List ℕ → List ℕ → Memory
-memory refusals sides lines = record { refusals = refusals; sides = sides; lines = lines }
-
--- there are n places in each slice
-pub record Fits (n : ℕ) (m : Memory) : Type 0 where
-  pub refusals : n ≤ length m.refusals
-  pub sides : n ≤ length m.sides
-  pub lines : n ≤ length m.lines
-
--- places from n on stay
-pub record Stays (n : ℕ) (m m' : Memory) : Type 0 where
-  pub refusals : Tail n m.refusals m'.refusals
-  pub sides : Tail n m.sides m'.sides
-  pub lines : Tail n m.lines m'.lines
 
 -- Between the rounds the memory holds the leader of each path: its weight stands among the refusals, which are written last
 abbrev pub leader_in : Memory → ℕ → Leader

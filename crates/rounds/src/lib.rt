@@ -3,157 +3,163 @@
 
 #![tactic(auto)]
 
-ghost use Rattle.std.specs.Prelude.{◌≡◌, ◌+◌, ◌≤◌, length};
+ghost use Rattle.std.specs.Prelude.{◌≡◌, ◌+◌, ◌≤◌, length, set};
+ghost use Rattle.std.proofs.Props.{props};
 ghost use Rattle.protocol.specs.Normal.{normal_path};
-ghost use Rattle.protocol.specs.Classes.{class_table};
-ghost use Rattle.listing.specs.Listing.{GoodEnds};
-ghost use Rattle.tables.specs.Tables.{rules_from, Sound};
+ghost use Rattle.protocol.specs.Refusals.{path_rows, refusal};
+ghost use Rattle.listing.specs.Memory.{memory, held, Same, Fits};
+ghost use Rattle.tables.specs.Tables.{Sound};
 ghost use Rattle.collecting.specs.Left.{first_pass, left};
-ghost use Rattle.leading.specs.Leading.{Room};
-ghost use Rattle.rounds.specs.Rounds.{memory, Fits, led_for, Placed, Round};
+ghost use Rattle.rounds.specs.Rounds.{leader_in, led_for, Placed, Round};
 
 use leading::Leader;
-use protocol::{ClassTable, Dialect, LineNumber};
+use listing::{Answers, Paths};
+use octets::Classes;
+use protocol::{Dialect, LineNumber, Place, Rule, Side};
+use tables::Kept;
 
-// The leader for a normalised path, after the first `count` rules of a table.
-fn lead_normal(
-    dialect: Dialect,
-    file: &[u8],
-    table: &[usize],
-    count: usize,
-    path: &[u8],
-    scratch: &mut [u8],
-    leader: Leader,
-) -> Leader
-    requires { Room file.now table.now count path.now scratch.old }
-    ensures value { result ≡ led_for dialect file.now (rules_from 0 count table.now) path.now leader }
-    ensures scratch_len_unchanged { length scratch.new ≡ length scratch.old }
-{
-    if paths::is_robots_file(path) {
-        return leader;
-    }
-    leading::lead_all(dialect, file, table, count, path, scratch, leader)
+// Stands at each place of a table where no rule is kept yet.
+const NO_RULE: Kept = Kept {
+    rule: Rule {
+        line: LineNumber { number: 0 },
+        side: Side::Allow,
+        place: Place { offset: 0 },
+        length: 0,
+    },
+    front: 0,
+};
+
+// Memory for a normalised path and its walks. It is fixed, for there is no heap: no path that is answered is longer when it is normalised.
+#[derive(Drop)]
+struct Room {
+    buffer: [u8; 6142],
+    scratch: [u8; 6142],
 }
 
-// The same for a raw path that isn't refused.
-fn lead_path(
+// The rules of a round, whose patterns stand in the file.
+#[derive(Clone, Copy)]
+struct Table<'a> {
     dialect: Dialect,
-    file: &[u8],
-    table: &[usize],
-    count: usize,
-    path: &[u8],
-    buffer: &mut [u8],
-    scratch: &mut [u8],
-    leader: Leader,
-) -> Leader
-    requires { Room file.now table.now count (normal_path path.now) scratch.old × (length (normal_path path.now) ≤ length buffer.old) }
-    ensures value { result ≡ led_for dialect file.now (rules_from 0 count table.now) (normal_path path.now) leader }
-    ensures scratch_len_unchanged { (length scratch.new ≡ length scratch.old) × (length buffer.new ≡ length buffer.old) }
-{
-    if !normal::may_change(path) {
-        return lead_normal(dialect, file, table, count, path, scratch, leader);
-    }
-    let n = normal::write(false, path, buffer);
-    lead_normal(dialect, file, table, count, &buffer[..n], scratch, leader)
+    file: &'a [u8],
+    rules: &'a [Kept],
+    ghost short: { length file.now ≤ 512000 },
+    ghost sound: { Sound file.now (length rules.now) rules.now } by { Prim.hlevel props },
 }
 
-// One path of a round, at place i.
-fn lead_place(
-    dialect: Dialect,
-    file: &[u8],
-    table: &[usize],
-    count: usize,
-    path: &[u8],
-    i: usize,
-    refusals: &mut [usize],
-    sides: &mut [usize],
-    lines: &mut [usize],
-    buffer: &mut [u8],
-    scratch: &mut [u8],
-)
-    requires { (length file.now ≤ 512000) × Sound file.now count table.now × (length buffer.old ≡ 6142) × (length scratch.old ≡ 6142) × Fits (i + 1) (memory refusals.old sides.old lines.old) }
-    ensures placed { Placed dialect file.now (rules_from 0 count table.now) path.now i (memory refusals.old sides.old lines.old) (memory refusals.new sides.new lines.new) }
-    ensures scratch_len_unchanged { (length scratch.new ≡ length scratch.old) × (length buffer.new ≡ length buffer.old) }
+// The rule that leads for the path at place i.
+fn leader_at(answers: &Answers, i: usize) -> Leader
+    requires { Fits (i + 1) (held answers.now) }
+    ensures { result ≡ leader_in (held answers.now) i }
 {
-    if paths::path_refusal(path) != 0 {
-        return;
+    Leader {
+        weight: answers.refusals[i],
+        side: answers.sides[i],
+        line: LineNumber {
+            number: answers.lines[i],
+        },
     }
-    let number = lines[i];
-    let before = Leader {
-        weight: refusals[i],
-        side: sides[i],
-        line: LineNumber { number },
-    };
-    let l = lead_path(dialect, file, table, count, path, buffer, scratch, before);
-    refusals[i] = l.weight;
-    sides[i] = l.side;
-    lines[i] = l.line.number;
 }
 
-// A round: each path goes through the first `count` rules of a table.
-fn round(
-    dialect: Dialect,
-    file: &[u8],
-    table: &[usize],
-    count: usize,
-    paths: &[u8],
-    ends: &[usize],
-    refusals: &mut [usize],
-    sides: &mut [usize],
-    lines: &mut [usize],
-    buffer: &mut [u8],
-    scratch: &mut [u8],
-)
-    requires { (length file.now ≤ 512000) × Sound file.now count table.now × GoodEnds paths.now ends.now × (length buffer.old ≡ 6142) × (length scratch.old ≡ 6142) × Fits (length ends.now) (memory refusals.old sides.old lines.old) }
-    ensures round { Round dialect file.now (rules_from 0 count table.now) paths.now ends.now (memory refusals.old sides.old lines.old) (memory refusals.new sides.new lines.new) }
-    ensures scratch_len_unchanged { (length scratch.new ≡ length scratch.old) × (length buffer.new ≡ length buffer.old) }
+// From now on that rule leads for it.
+fn store(answers: &mut Answers, i: usize, leader: Leader)
+    requires { Fits (i + 1) (held answers.old) }
+    ensures same { Same answers.old answers.new }
+    ensures stored { held answers.new ≡ memory (set answers.old.refusals.now i leader.weight) (set answers.old.sides.now i leader.side) (set answers.old.lines.now i leader.line.number) }
 {
-    let mut start = 0;
-    let mut i = 0;
-    while i < ends.len() {
-        let end = ends[i];
-        lead_place(
-            dialect,
-            file,
-            table,
-            count,
-            &paths[start..end],
-            i,
-            refusals,
-            sides,
-            lines,
-            buffer,
+    answers.refusals[i] = leader.weight;
+    answers.sides[i] = leader.side;
+    answers.lines[i] = leader.line.number;
+}
+
+impl Table<'_> {
+    ghost use Rattle.rounds.specs.Tabled.{rules_in};
+
+    // The leader for a normalised path, after the rules.
+    fn lead_normal(&self, path: &[u8], scratch: &mut [u8; 6142], leader: Leader) -> Leader
+        requires { length path.now ≤ 6142 }
+        ensures { result ≡ led_for self.now.dialect self.now.file.now (rules_in self.now) path.now leader }
+    {
+        if paths::is_robots_file(path) {
+            return leader;
+        }
+        leading::lead_all(
+            self.dialect,
+            self.file,
+            self.rules,
+            self.rules.len(),
+            path,
             scratch,
-        );
-        start = end;
-        i += 1;
+            leader,
+        )
+    }
+
+    // The same for a raw path that isn't refused.
+    fn lead_path(&self, path: &[u8], room: &mut Room, leader: Leader) -> Leader
+        requires { refusal (path_rows path.now) ≡ 0 }
+        ensures { result ≡ led_for self.now.dialect self.now.file.now (rules_in self.now) (normal_path path.now) leader }
+    {
+        if !normal::may_change(path) {
+            return self.lead_normal(path, &mut room.scratch, leader);
+        }
+        let n = normal::write(false, path, &mut room.buffer);
+        self.lead_normal(&room.buffer[..n], &mut room.scratch, leader)
+    }
+
+    // One path of a round, at place i.
+    fn lead_place(&self, path: &[u8], i: usize, answers: &mut Answers, room: &mut Room)
+        requires { Fits (i + 1) (held answers.old) }
+        ensures same { Same answers.old answers.new }
+        ensures placed { Placed self.now.dialect self.now.file.now (rules_in self.now) path.now i (held answers.old) (held answers.new) }
+    {
+        if paths::check_path(path).is_err() {
+            return;
+        }
+        let before = leader_at(answers, i);
+        let leader = self.lead_path(path, room, before);
+        store(answers, i, leader);
+    }
+
+    // A round: each path goes through the rules.
+    fn round(&self, paths: Paths, answers: &mut Answers, room: &mut Room)
+        requires { Fits (length paths.ends.now) (held answers.old) }
+        ensures same { Same answers.old answers.new }
+        ensures round { Round self.now.dialect self.now.file.now (rules_in self.now) paths.entry.joined.now paths.entry.ends.now (held answers.old) (held answers.new) }
+    {
+        for i in 0..paths.ends.len() {
+            self.lead_place(paths.path(i), i, answers, room);
+        }
     }
 }
 
 // Rounds until the file is read, for those who have the name `who`.
 pub fn rounds(
-    classes: &ClassTable,
+    classes: &Classes,
     dialect: Dialect,
     file: &[u8],
     who: &[u8],
-    paths: &[u8],
-    ends: &[usize],
-    refusals: &mut [usize],
-    sides: &mut [usize],
-    lines: &mut [usize],
-    table: &mut [usize],
-    buffer: &mut [u8],
-    scratch: &mut [u8],
+    paths: Paths,
+    answers: &mut Answers,
 )
-    requires { (classes.now ≡ class_table) × (length file.now ≤ 512000) × GoodEnds paths.now ends.now × (5 ≤ length table.old) × (length buffer.old ≡ 6142) × (length scratch.old ≡ 6142) × Fits (length ends.now) (memory refusals.old sides.old lines.old) }
-    ensures { Round dialect file.now (left file.now who.now (first_pass file.now)) paths.now ends.now (memory refusals.old sides.old lines.old) (memory refusals.new sides.new lines.new) }
+    requires short { length file.now ≤ 512000 }
+    requires fits { Fits (length paths.ends.now) (held answers.old) }
+    ensures same { Same answers.old answers.new }
+    ensures round { Round dialect file.now (left file.now who.now (first_pass file.now)) paths.entry.joined.now paths.entry.ends.now (held answers.old) (held answers.new) }
 {
+    let mut kept = [NO_RULE; 512];
+    let mut room = Room {
+        buffer: [0; 6142],
+        scratch: [0; 6142],
+    };
     let mut pass = collecting::first_pass(file);
+    // No `for`: a round goes as far as the table has room.
     while pass.at.place.offset < file.len() {
-        let c = collecting::collect(classes, file, who, pass, table);
-        pass = c.pass;
-        round(
-            dialect, file, table, c.count, paths, ends, refusals, sides, lines, buffer, scratch,
-        );
+        let collected = collecting::collect(classes, file, who, pass, &mut kept);
+        pass = collected.pass;
+        let table = Table {
+            dialect,
+            file,
+            rules: &kept[..collected.count],
+        };
+        table.round(paths, answers, &mut room);
     }
 }

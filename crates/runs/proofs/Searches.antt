@@ -10,6 +10,7 @@ use lib.Dec.{eqb}
 use lib.ListN.{length, take, drop, get_or, length-drop}
 use lib.Seq.{drop-drop}
 use Rattle.lists.proofs.Bools.{split}
+use Rattle.lists.proofs.Scans.{rest_of}
 use Rattle.protocol.specs.declared.Tried.{Tried}
 use Rattle.protocol.specs.declared.Walked.{Walked}
 use Rattle.protocol.specs.Walk.{tried, failed, seek}
@@ -152,3 +153,47 @@ tries_count path k n r some l =
     let f = firsts_found path k n r x some l refl e in
     omega (arith, found_counts r path k n x f, tried_more (drop 1 r) (drop (behind_first k n x) path) x.count))
     (λ e. omega (arith, ap (λ (w : Walked). w.count) (firsts_spent path k n r x some l refl e)))
+
+-- the same in the terms of `seek_run`, for a run that is not empty: with no x, and with the parts as they are lent
+module _ (r path : List ℕ) (k n : ℕ) (some : 0 < length r) (l : length r ≤ length path - k) where
+  abbrev tries : Tried
+  tries = first_tries path k n r
+
+  abbrev goes : ℕ
+  goes = behind_first k n tries
+
+  -- what is left of the run, behind the place where its first octet is
+  abbrev behind_tried : Tried
+  behind_tried = tried (take (length r - 1) (drop 1 r)) (take (length path - goes) (drop goes path)) tries.count
+
+  whole : behind_tried ≡ tried (drop 1 r) (drop goes path) tries.count
+  whole = rw (rest_of 1 r, rest_of goes path)
+
+  not_empty : length r ≡ 0 → ⊥
+  not_empty e = omega arith
+
+  found : tries.stood ≡ true → Found r path k n tries
+  found e = firsts_found path k n r tries not_empty l refl e
+
+  pub seek_counts : tries.count ≤ (seek r k n (drop k path)).count
+  seek_counts = tries_count path k n r not_empty l
+
+  pub seek_spent : tries.stood ≡ false → seek r k n (drop k path) ≡ failed tries.count
+  seek_spent e = firsts_spent path k n r tries not_empty l refl e
+
+  pub tries_over : tries.stood ≡ true → n < tries.count
+  tries_over e = (found e).more
+
+  pub tries_within : tries.stood ≡ true → goes + (length r - 1) ≤ length path
+  tries_within e = (found e).end
+
+  pub behind_counts : tries.stood ≡ true → behind_tried.count ≤ (seek r k n (drop k path)).count
+  behind_counts e = rw whole (found_counts r path k n tries (found e))
+
+  pub behind_here : tries.stood ≡ true → behind_tried.stood ≡ true → seek r k n (drop k path) ≡ record { stood = true; past = goes + (length r - 1); count = behind_tried.count }
+  behind_here e = rw whole (found e).here
+
+  pub behind_on : tries.stood ≡ true → behind_tried.stood ≡ false → seek r k n (drop k path) ≡ seek r goes behind_tried.count (drop goes path)
+  behind_on e = rw whole (found e).on
+
+pub ruleset searches = (seek_empty, search_end, seek_counts, seek_spent, tries_over, tries_within, behind_counts, behind_here, behind_on)

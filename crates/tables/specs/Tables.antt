@@ -1,50 +1,33 @@
--- Rules as numbers in a table, five to a rule: its pattern's place and length, its line, its side's number, and how many literal octets its pattern
--- has in front. Assumes nothing.
-use Rattle.std.specs.Prelude.{ℕ, zero, suc, ◌+◌, ◌*◌, ◌≤◌, ◌<◌, ◌≡◌, List, [], ◌∷◌, eqb, length, get_or, if◌then◌else◌}
+-- The rules of a table, each with how many literal octets its pattern has in front. Assumes nothing.
+use Rattle.std.specs.Prelude.{ℕ, ◌+◌, ◌≤◌, ◌≡◌, List, map, take, drop, length}
+use Rattle.std.specs.List.{All}
 use Rattle.lists.specs.Lists.{up_to}
-use Rattle.protocol.specs.declared.Side.{Side}
 use Rattle.protocol.specs.declared.Rule.{Rule}
-use Rattle.protocol.specs.Lines.{line_number, place_at}
 use Rattle.protocol.specs.Decision.{pattern_of}
-use Rattle.protocol.specs.Answers.{side_number}
 use Rattle.normal.specs.Literal.{not_literal}
+use Rattle.tables.specs.declared.Kept.{Kept}
 
 -- the literal octets in front of a pattern
 abbrev pub front_of : List ℕ → ℕ
 front_of pattern = length (up_to not_literal pattern)
 
--- the numbers of a rule with that pattern
-abbrev pub numbers_of : Rule → List ℕ → List ℕ
-numbers_of r pattern = r.place.offset ∷ r.length ∷ r.line.number ∷ side_number r.side ∷ front_of pattern ∷ []
+-- a rule with that pattern, as it is kept
+abbrev pub kept_of : Rule → List ℕ → Kept
+kept_of r pattern = record { rule = r; front = front_of pattern }
 
--- the side of a number
-abbrev pub side_of : ℕ → Side
-side_of n = if eqb n 0 then Side.Allow else Side.Disallow
+-- the rules that are kept
+abbrev pub rules_of : List Kept → List Rule
+rules_of t = map (λ k. k.rule) t
 
--- the rule that stands at place i of a table, counted from 0, and the literal octets in front of its pattern
-abbrev pub rule_at : List ℕ → ℕ → Rule
-rule_at t i =
-    record {
-      line = line_number (get_or t (5 * i + 2) 0);
-      side = side_of (get_or t (5 * i + 3) 0);
-      place = place_at (get_or t (5 * i) 0);
-      length = get_or t (5 * i + 1) 0;
-    }
+-- n rules from place i on, counted from 0
+abbrev pub rules_from : ℕ → ℕ → List Kept → List Rule
+rules_from i n t = rules_of (take n (drop i t))
 
-abbrev pub front_at : List ℕ → ℕ → ℕ
-front_at t i = get_or t (5 * i + 4) 0
+-- it is kept as a rule of the file is
+pub record SoundKept (file : List ℕ) (k : Kept) : Type 0 where
+  pub inside : k.rule.place.offset + k.rule.length ≤ length file
+  pub front : k.front ≡ front_of (pattern_of file k.rule)
 
--- n rules from place i on
-unfoldable pub rules_from : ℕ → ℕ → List ℕ → List Rule
-rules_from i zero t = []
-rules_from i (suc n) t = rule_at t i ∷ rules_from (i + 1) n t
-
--- the numbers there are those of a rule of the file
-pub record SoundAt (file t : List ℕ) (i : ℕ) : Type 0 where
-  pub inside : get_or t (5 * i) 0 + get_or t (5 * i + 1) 0 ≤ length file
-  pub side : get_or t (5 * i + 3) 0 ≡ side_number (rule_at t i).side
-  pub front : front_at t i ≡ front_of (pattern_of file (rule_at t i))
-
--- so are those of the first n rules
-abbrev pub Sound : List ℕ → ℕ → List ℕ → Type 0
-Sound file n t = (5 * n ≤ length t) × ((i : ℕ) → i < n → SoundAt file t i)
+-- so are the first n rules
+abbrev pub Sound : List ℕ → ℕ → List Kept → Type 0
+Sound file n t = (n ≤ length t) × All (SoundKept file) (take n t)

@@ -1,23 +1,38 @@
-// Rules as numbers in a lent table, five to a rule.
+// A rule as a table keeps it.
 
 #![tactic(auto)]
 
-ghost use Rattle.std.specs.Prelude.{◌≡◌, ◌+◌, ◌*◌, ◌≤◌, length};
-ghost use Rattle.std.proofs.lemmas.List.Edits.{sets};
-ghost use Rattle.tables.specs.Tables.{numbers_of};
+ghost use Rattle.std.specs.Prelude.{◌≡◌};
+ghost use Rattle.tables.specs.Tables.{kept_of};
 
-use protocol::Rule;
+use protocol::{LineNumber, Place, Rule, Side};
 
-// A rule, with its pattern's octets, behind the n that are in the table.
-pub fn keep(rule: Rule, pattern: &[u8], n: usize, table: &mut [usize])
-    requires { 5 * n + 5 ≤ length table.old }
-    ensures { table.new ≡ sets table.old (5 * n) (numbers_of rule pattern.now) }
-{
-    let at = 5 * n;
-    let side = rule.side;
-    table[at] = rule.place.offset;
-    table[at + 1] = rule.length;
-    table[at + 2] = rule.line.number;
-    table[at + 3] = numbers::side_number(side);
-    table[at + 4] = normal::literal_front(pattern);
+// A rule, and how many literal octets its pattern has in front.
+#[derive(Clone, Copy)]
+pub struct Kept {
+    pub rule: Rule,
+    pub front: usize,
+}
+
+// A place of a table that holds no rule yet.
+pub const NO_RULE: Kept = Kept {
+    rule: Rule {
+        line: LineNumber { number: 0 },
+        side: Side::Allow,
+        place: Place { offset: 0 },
+        length: 0,
+    },
+    front: 0,
+};
+
+impl Kept {
+    // A rule with its pattern's octets.
+    pub fn new(rule: Rule, pattern: &[u8]) -> Self
+        ensures { result ≡ kept_of rule pattern.now }
+    {
+        Kept {
+            rule,
+            front: normal::literal_front(pattern),
+        }
+    }
 }

@@ -4,198 +4,164 @@
 
 pub mod same; // same.rt: beginnings, ASCII case ignored
 
-ghost use Rattle.std.specs.Prelude.{◌≡◌, map, ◌≤◌, length, drop};
+ghost use Rattle.std.specs.Prelude.{◌≡◌, ℕ, Bool, map, ◌≤◌, length};
 ghost use Rattle.lists.specs.Lists.{any, up_to};
 ghost use Rattle.protocol.specs.Text.{lead, trim_end};
 ghost use Rattle.protocol.specs.Octets.{line_end};
-ghost use Rattle.protocol.specs.Classes.{class_table};
-ghost use Rattle.words.specs.Words.{octets_of, among, mark};
+ghost use Rattle.words.specs.Words.{octets_of, among, mark, Marks};
 ghost use Rattle.text.specs.Parts.{equals, opens, first_from, sought};
 
-use protocol::{ClassTable, Place, Sort};
+use octets::Classes;
+use protocol::{Place, Sort};
 
-// An octet from low to high, or any other.
-fn is_among(x: u8, low: u8, high: u8, inside: bool) -> bool
-    ensures { result ≡ among low high inside x }
+// The octets in front of the first that `marks` marks, all of them where there is none. Eight are looked at at a time, the last eight once more, so
+// that none are left over; so there have to be eight. Who has less looks at each.
+#[tactic(auto, using(crate::proofs::Marked::mark_fits))]
+fn first_marked<F: Fn(u64) -> u64>(s: &[u8], marks: F) -> usize
+    requires eight { 8 ≤ length s.now }
+    requires callable { F.IsAlwaysCallable marks }
+    ensures { (f : ℕ → Bool) → Marks (F.post marks) f → result ≡ length (up_to f s.now) }
 {
-    let is_within = low <= x && x <= high;
-    is_within == inside
-}
-
-// A place from which the search goes on: behind whole words without an octet of that sort, or at the first one. Octets over 127 are sought one
-// by one.
-fn past_words(s: &[u8], from: Place, low: u8, high: u8, inside: bool) -> Place
-    ensures { first_from (among low high inside) s.now result ≡ first_from (among low high inside) s.now from }
-{
-    if 127 < low || 127 < high || s.len() < 8 {
-        return from;
-    }
     let last = s.len() - 8;
-    let mut i = from.offset;
-    while i <= last {
-        let front = words::first_mark(words::marks(words::word_at(s, i), low, high, inside));
-        if front < 8 {
-            let found = i + front;
-            return Place { offset: found };
+    let mut i = 0;
+    // Over the slices of `as_chunks` the compiler counts both words and octets, which takes an eighth longer.
+    while i < last {
+        let m = marks(words::word_at(s, i));
+        if m != 0 {
+            return i + words::first_mark(m);
         }
         i += 8;
     }
-    Place { offset: i }
+    let m = marks(words::word_at(s, last));
+    if m == 0 {
+        s.len()
+    } else {
+        last + words::first_mark(m)
+    }
+}
+
+// The octets in front of the first of that sort, all of them where there is none.
+pub fn clear_front(s: &[u8], low: u8, high: u8, inside: bool) -> usize
+    requires { (8 ≤ length s.now) × (low ≤ 128) × (high ≤ 127) }
+    ensures { result ≡ length (up_to (among low high inside) s.now) }
+{
+    first_marked(s, |w| words::marks(w, low, high, inside))
+}
+
+// An octet from low to high, or any other. The three stay parameters: any octets may be sought, and only of words is asked that they are small, so no
+// one invariant holds of them.
+fn is_among(x: u8, low: u8, high: u8, inside: bool) -> bool
+    ensures { result ≡ among low high inside x }
+{
+    (low..=high).contains(&x) == inside
+}
+
+// The same of any text and any octets. Octets over 127 are sought one by one.
+fn front(s: &[u8], low: u8, high: u8, inside: bool) -> usize
+    ensures { result ≡ length (up_to (among low high inside) s.now) }
+{
+    if s.len() < 8 || 127 < low || 127 < high {
+        return s
+            .iter()
+            .position(|x| is_among(*x, low, high, inside))
+            .unwrap_or(s.len());
+    }
+    clear_front(s, low, high, inside)
 }
 
 // The place of the first octet of that sort from `from` on, or the text's end.
+#[tactic(auto, using(crate::proofs::Seeks::first_past, lists::proofs::Scans::up_to_fits))]
 pub fn seek(s: &[u8], from: Place, low: u8, high: u8, inside: bool) -> Place
     ensures { result ≡ first_from (among low high inside) s.now from }
 {
-    let start = past_words(s, from, low, high, inside);
-    let mut i = start.offset;
-    while i < s.len() {
-        if is_among(s[i], low, high, inside) {
-            return Place { offset: i };
-        }
-        i += 1;
+    match s.get(from.offset..) {
+        Some(rest) => Place {
+            offset: from.offset + front(rest, low, high, inside),
+        },
+        None => from,
     }
-    Place { offset: i }
 }
 
 // The octets in front of the first x: all of them where there is none.
 pub fn find(s: &[u8], x: u8) -> usize
     ensures { result ≡ length (up_to (equals x) s.now) }
 {
-    let place = seek(s, Place { offset: 0 }, x, x, true);
-    place.offset
+    front(s, x, x, true)
 }
 
-// 128 in the place of each CR and LF of a word.
+// 128 in the place of each CR and LF of a word. Most words have no octet up to CR.
+#[tactic(auto, using(crate::proofs::Seeks::end_marks, crate::proofs::Seeks::no_end_marks))]
 fn line_end_marks(w: u64) -> u64
     ensures { octets_of 8 result ≡ map (mark line_end) (octets_of 8 w) }
 {
+    if words::marks(w, 0, b'\r', true) == 0 {
+        return 0;
+    }
     words::marks(w, b'\r', b'\r', true) | words::marks(w, b'\n', b'\n', true)
 }
 
-// A place from which the search for CR or LF goes on: behind whole words without one, or at the first one. Most words have no octet up to CR.
-fn past_line(s: &[u8], from: Place) -> Place
-    ensures { first_from line_end s.now result ≡ first_from line_end s.now from }
+// The octets in front of the first CR or LF, all of them where there is none.
+fn line_front(classes: &Classes, s: &[u8]) -> usize
+    ensures { result ≡ length (up_to line_end s.now) }
 {
     if s.len() < 8 {
-        return from;
+        return scan(classes, s, Sort::LineEnd, true);
     }
-    let last = s.len() - 8;
-    let mut i = from.offset;
-    while i <= last {
-        let w = words::word_at(s, i);
-        if words::marks(w, 0, b'\r', true) != 0 {
-            let front = words::first_mark(line_end_marks(w));
-            if front < 8 {
-                let found = i + front;
-                return Place { offset: found };
-            }
-        }
-        i += 8;
-    }
-    Place { offset: i }
+    first_marked(s, line_end_marks)
 }
 
-// CR or LF stands there.
-fn is_end_at(classes: &ClassTable, s: &[u8], at: Place) -> bool
-    requires { classes.now ≡ class_table }
-    ensures { result ≡ opens line_end (drop at.offset s.now) }
+// The text begins with CR or LF.
+fn is_at_end(classes: &Classes, s: &[u8]) -> bool
+    ensures { result ≡ opens line_end s.now }
 {
-    let i = at.offset;
-    if s.len() <= i {
-        return false;
-    }
-    octets::is_of(classes, Sort::LineEnd, s[i])
+    s.first().is_some_and(|x| classes.is_of(Sort::LineEnd, *x))
 }
 
 // The place of the first CR or LF from `from` on, or the text's end. Mostly one stands there.
-pub fn line_end(classes: &ClassTable, s: &[u8], from: Place) -> Place
-    requires { classes.now ≡ class_table }
+#[tactic(auto, using(crate::proofs::Seeks::first_past, crate::proofs::Seeks::first_here, lists::proofs::Scans::up_to_fits))]
+pub fn line_end(classes: &Classes, s: &[u8], from: Place) -> Place
     ensures { result ≡ first_from line_end s.now from }
 {
-    if is_end_at(classes, s, from) {
-        return from;
+    match s.get(from.offset..) {
+        Some(rest) if !is_at_end(classes, rest) => Place {
+            offset: from.offset + line_front(classes, rest),
+        },
+        _ => from,
     }
-    let start = past_line(s, from);
-    let mut i = start.offset;
-    while i < s.len() {
-        if octets::is_of(classes, Sort::LineEnd, s[i]) {
-            return Place { offset: i };
-        }
-        i += 1;
-    }
-    Place { offset: i }
 }
 
 // The octets in front of the first that is of the sort; where `inside` is false, of the first that isn't.
-pub fn scan(classes: &ClassTable, s: &[u8], sort: Sort, inside: bool) -> usize
-    requires { classes.now ≡ class_table }
+pub fn scan(classes: &Classes, s: &[u8], sort: Sort, inside: bool) -> usize
     ensures { result ≡ length (up_to (sought sort inside) s.now) }
 {
-    let mut i = 0;
-    while i < s.len() {
-        if octets::is_of(classes, sort, s[i]) == inside {
-            return i;
-        }
-        i += 1;
-    }
-    i
+    s.iter()
+        .position(|x| classes.is_of(sort, *x) == inside)
+        .unwrap_or(s.len())
 }
 
 // The number of spaces and tabs at the front.
-pub fn lead(classes: &ClassTable, s: &[u8]) -> usize
-    requires { classes.now ≡ class_table }
+#[tactic(auto, unfolding(protocol::specs::Text::lead))]
+pub fn lead(classes: &Classes, s: &[u8]) -> usize
     ensures { result ≡ lead s.now }
 {
     scan(classes, s, Sort::Blank, false)
 }
 
 // The octets that are left without spaces and tabs at the end.
-pub fn trimmed_length(classes: &ClassTable, s: &[u8]) -> usize
-    requires { classes.now ≡ class_table }
+pub fn trimmed_length(classes: &Classes, s: &[u8]) -> usize
     ensures { result ≡ length (trim_end s.now) }
 {
-    let mut n = s.len();
-    while 0 < n {
-        if !octets::is_of(classes, Sort::Blank, s[n - 1]) {
-            return n;
-        }
-        n -= 1;
+    match s.iter().rposition(|x| !classes.is_of(Sort::Blank, *x)) {
+        Some(i) => i + 1,
+        None => 0,
     }
-    n
 }
 
-// The octets in front of the first of that sort, all of them where there is none. Eight are looked at at a time, the last eight once more, so that
-// none are left over; so there have to be eight. Who has less looks at each.
-pub fn clear_front(s: &[u8], low: u8, high: u8, inside: bool) -> usize
-    requires { (8 ≤ length s.now) × (low ≤ 128) × (high ≤ 127) }
-    ensures { result ≡ length (up_to (among low high inside) s.now) }
-{
-    let last = s.len() - 8;
-    let mut i = 0;
-    while i < last {
-        let m = words::marks(words::word_at(s, i), low, high, inside);
-        if m != 0 {
-            return i + words::first_mark(m);
-        }
-        i += 8;
-    }
-    let m = words::marks(words::word_at(s, last), low, high, inside);
-    if m != 0 {
-        return last + words::first_mark(m);
-    }
-    s.len()
-}
-
-// Some octet is CR or LF.
-pub fn holds_line_end(classes: &ClassTable, s: &[u8]) -> bool
-    requires { classes.now ≡ class_table }
+// Some octet is CR or LF. Most texts have no octet up to CR.
+#[tactic(auto, using(lists::proofs::Scans::up_to_fits))]
+pub fn holds_line_end(classes: &Classes, s: &[u8]) -> bool
     ensures { result ≡ any line_end s.now }
 {
-    let mut front = 0;
-    if 8 <= s.len() {
-        front = clear_front(s, 0, b'\r', true);
-    }
-    let rest = &s[front..];
-    scan(classes, rest, Sort::LineEnd, true) < rest.len()
+    let rest = &s[front(s, 0, b'\r', true)..];
+    rest.iter().any(|x| classes.is_of(Sort::LineEnd, *x))
 }

@@ -2,24 +2,15 @@
 
 ghost use Rattle.std.specs.Prelude.{◌≡◌, length, take};
 ghost use Rattle.protocol.specs.Text.{same_ignoring_case};
-ghost use Rattle.protocol.specs.Classes.{class_table};
 
-use protocol::ClassTable;
+use octets::Classes;
 
 // A text begins with a word, ASCII case ignored.
-pub fn begins_with(classes: &ClassTable, s: &[u8], word: &[u8]) -> bool
-    requires { classes.now ≡ class_table }
+pub fn begins_with(classes: &Classes, s: &[u8], word: &[u8]) -> bool
     ensures { result ≡ same_ignoring_case (take (length word.now) s.now) word.now }
 {
-    if s.len() < word.len() {
-        return false;
+    match s.get(..word.len()) {
+        Some(front) => front.iter().zip(word).all(|(x, y)| classes.is_same(*x, *y)),
+        None => false,
     }
-    let mut i = 0;
-    while i < word.len() {
-        if !octets::is_same(classes, s[i], word[i]) {
-            return false;
-        }
-        i += 1;
-    }
-    true
 }

@@ -1,12 +1,8 @@
 -- What one turn of a comparison does, at an index. Assumes nothing.
-use Rattle.std.specs.Prelude.{if◌then◌else◌}
-use Prim.Native.Nat.{ℕ, zero, suc, ◌+◌, ◌≤◌, ◌<◌}
-use mathlib.Core.Path.{◌≡◌, refl, sym, ap, ◌∙◌}
-use mathlib.Core.Bool.{Bool, true, false}
-use mathlib.Core.List.{List, [], ◌∷◌}
-use native.Mathlib.Omega.{arith}
+use Rattle.std.proofs.Common.{◌≡◌, refl, sym, ap, ◌∙◌, ℕ, ◌+◌, ◌*◌, ◌≤◌, ◌<◌, zero, suc, true, false, List, [], ◌∷◌, length, take, drop, get_or, if◌then◌else◌, arith}
+use Rattle.std.specs.Simd.{first_chunks}
 use lib.Dec.{eqb}
-use lib.ListN.{length, take, drop, get_or, drop_of_length-le}
+use lib.ListN.{drop_of_length-le}
 use lib.Seq.{drop-drop}
 use borrow.Author.Tests.{eq-eqb, ne_eqb, eqb-true, eqb-false}
 use Rattle.lists.proofs.Bools.{split}
@@ -35,40 +31,40 @@ module _ (r t : List ℕ) (i n : ℕ) where
         (λ e. rw (compare_same (eqb-true _ _ e)) (tried_more _ _ (n + 1)))
         (λ e. rw (compare_other (eqb-false _ _ e)) (omega arith))
 
--- the tries at a run's first octet, at the index i of the places
-module _ (a : ℕ) (t : List ℕ) (i n : ℕ) where
-  pub firsts_end : length t ≤ i → tried_first a (drop i t) n ≡ record { stood = false; count = n }
-  unfolding tried_first
-  firsts_end l = rw (drop_of_length-le t l)
-
-  -- one comparison, and what it came to
-  module _ (l : i < length t) (x : Tried) (h : x ≡ record { stood = eqb a (get_or t i 0); count = n + 1 }) where
-    equal : {b : Bool} → x.stood ≡ b → eqb a (get_or t i 0) ≡ b
-    equal e = sym (ap (λ (y : Tried). y.stood) h) ∙ e
-
-    pub firsts_here : x.stood ≡ true → x ≡ tried_first a (drop i t) n
-    unfolding tried_first
-    firsts_here e = h ∙ rw (drop_one t i 0 l, equal e)
-
-    pub firsts_on : x.stood ≡ false → tried_first a (drop i t) n ≡ tried_first a (drop (i + 1) t) x.count
-    unfolding tried_first
-    firsts_on e = rw (drop_one t i 0 l, equal e, h)
-
-    pub firsts_last : i + 1 ≡ length t → x ≡ tried_first a (drop i t) n
-    unfolding tried_first
-    firsts_last z =
-        let m : length t ≤ i + 1 = omega (arith, z) in
-        split (eqb a (get_or t i 0)) (λ q. h ∙ rw (drop_one t i 0 l, q)) (λ q. h ∙ rw (drop_one t i 0 l, q, drop_of_length-le t m))
+pub ruleset compares = (compare_end, compare_same, compare_other, compare_counts)
 
 firsts_more : (a : ℕ) (t : List ℕ) (n : ℕ) → n ≤ (tried_first a t n).count
 unfolding tried_first
 firsts_more a [] n = omega arith
 firsts_more a (b ∷ t) n = split (eqb a b) (λ e. rw e (omega arith)) (λ e. rw e (omega (arith, firsts_more a t (n + 1))))
 
-pub firsts_counts : (a : ℕ) (t : List ℕ) (i n : ℕ) → i < length t → n + 1 ≤ (tried_first a (drop i t) n).count
-unfolding tried_first
-firsts_counts a t i n l =
-    split (eqb a (get_or t i 0)) (λ e. rw (drop_one t i 0 l, e) (omega arith)) (λ e. rw (drop_one t i 0 l, e) (firsts_more a (drop (i + 1) t) (n + 1)))
+-- the tries at a run's first octet, at the index i of the places
+module _ (a : ℕ) (t : List ℕ) (i n : ℕ) where
+  pub firsts_end : length t ≤ i → tried_first a (drop i t) n ≡ record { stood = false; count = n }
+  unfolding tried_first
+  firsts_end l = rw (drop_of_length-le t l)
+
+  module _ (l : i < length t) where
+    pub firsts_here : eqb a (get_or t i 0) ≡ true → tried_first a (drop i t) n ≡ record { stood = true; count = n + 1 }
+    unfolding tried_first
+    firsts_here e = rw (drop_one t i 0 l, e)
+
+    pub firsts_on : eqb a (get_or t i 0) ≡ false → tried_first a (drop i t) n ≡ tried_first a (drop (i + 1) t) (n + 1)
+    unfolding tried_first
+    firsts_on e = rw (drop_one t i 0 l, e)
+
+    -- at the last place, whatever the comparison came to
+    pub firsts_last : i + 1 ≡ length t → tried_first a (drop i t) n ≡ record { stood = eqb a (get_or t i 0); count = n + 1 }
+    unfolding tried_first
+    firsts_last z =
+        let m : length t ≤ i + 1 = omega (arith, z) in
+        split (eqb a (get_or t i 0)) (λ e. rw (drop_one t i 0 l, e)) (λ e. rw (drop_one t i 0 l, e, drop_of_length-le t m))
+
+    pub firsts_counts : n + 1 ≤ (tried_first a (drop i t) n).count
+    firsts_counts =
+        split (eqb a (get_or t i 0)) (λ e. rw (firsts_here e) (omega arith)) (λ e. rw (firsts_on e) (firsts_more a (drop (i + 1) t) (n + 1)))
+
+pub ruleset firsts = (firsts_end, firsts_here, firsts_on, firsts_counts)
 
 -- the tries at the first s places, then those at the others
 firsts_split : (a : ℕ) (t : List ℕ) (s n : ℕ)
@@ -90,3 +86,29 @@ module _ (a : ℕ) (t : List ℕ) (i s n : ℕ) (x : Tried) (h : x ≡ tried_fir
   firsts_fewer =
       split x.stood (λ e. omega (arith, ap (λ (y : Tried). y.count) (firsts_within e)))
       (λ e. rw (firsts_behind e) (firsts_more a (drop (i + s) t) x.count))
+
+chunk_at : (s m k : ℕ) (t : List ℕ) → k < m → get_or (first_chunks s m t) k [] ≡ take s (drop (k * s) t)
+chunk_at s zero k t l = absurd (omega arith)
+chunk_at s (suc m) zero t l = let e : 0 * s ≡ 0 = omega arith in rw e
+chunk_at s (suc m) (suc k) t l =
+    let e : suc k * s ≡ s + k * s = omega arith in
+    rw e (chunk_at s m k (drop s t) (omega arith) ∙ ap (take s) (drop-drop (k * s) s t))
+
+-- the tries at the places of the k-th of m chunks of s places
+module _ (a : ℕ) (t : List ℕ) (s m k n : ℕ) (l : k < m) where
+  abbrev in_chunk : Tried
+  in_chunk = tried_first a (get_or (first_chunks s m t) k []) n
+
+  taken : in_chunk ≡ tried_first a (take s (drop (k * s) t)) n
+  taken = rw (chunk_at s m k t l)
+
+  pub chunk_stood : in_chunk.stood ≡ true → in_chunk ≡ tried_first a (drop (k * s) t) n
+  chunk_stood e = firsts_within a t (k * s) s n in_chunk taken e
+
+  pub chunk_on : in_chunk.stood ≡ false → tried_first a (drop ((k + 1) * s) t) in_chunk.count ≡ tried_first a (drop (k * s) t) n
+  chunk_on e = let m : (k + 1) * s ≡ k * s + s = omega arith in sym (rw m (firsts_behind a t (k * s) s n in_chunk taken e))
+
+  pub chunk_counts : in_chunk.count ≤ (tried_first a (drop (k * s) t) n).count
+  chunk_counts = firsts_fewer a t (k * s) s n in_chunk taken
+
+pub ruleset chunks = (chunk_stood, chunk_on, chunk_counts)

@@ -20,91 +20,59 @@ fn compare(a: u8, b: u8, before: usize) -> Tried
 }
 
 // Tries a run at a place: from the first pair to the first that differs.
+#[tactic(auto, using(crate::proofs::Turns::compares))]
 pub fn try_run(run: &[u8], rest: &[u8], before: usize) -> Tried
     requires { (length run.now ≤ length rest.now) × ((tried run.now rest.now before).count < 2 ^ 64) }
     ensures { result ≡ tried run.now rest.now before }
 {
-    let mut count = before;
-    let mut i = 0;
-    while i < run.len() {
-        let t = compare(run[i], rest[i], count);
+    let mut t = Tried {
+        stood: true,
+        count: before,
+    };
+    // By an index: `zip` would look at the ends of both at each pair, which takes longer.
+    for (i, a) in run.iter().enumerate() {
+        t = compare(*a, rest[i], t.count);
         if !t.stood {
             return t;
         }
-        count = t.count;
-        i += 1;
     }
-    Tried { stood: true, count }
+    t
 }
 
-// As `try_first`, for four places.
-fn try_four(first: u8, four: &[u8], before: usize) -> Tried
-    requires { (length four.now ≡ 4) × ((tried_first first four.now before).count < 2 ^ 64) }
-    ensures { result ≡ tried_first first four.now before }
-{
-    let t = compare(first, four[0], before);
-    if t.stood {
-        return t;
-    }
-    let u = compare(first, four[1], t.count);
-    if u.stood {
-        return u;
-    }
-    let v = compare(first, four[2], u.count);
-    if v.stood {
-        return v;
-    }
-    compare(first, four[3], v.count)
-}
-
-// As `try_first`, one place a turn: for the fewer than eight that are left.
+// As `try_first`, one place a turn.
+#[tactic(auto, using(crate::proofs::Turns::firsts))]
 fn try_each(first: u8, places: &[u8], before: usize) -> Tried
     requires { (tried_first first places.now before).count < 2 ^ 64 }
     ensures { result ≡ tried_first first places.now before }
 {
-    let mut count = before;
-    let mut i = 0;
-    while i < places.len() {
-        let t = compare(first, places[i], count);
+    let mut t = Tried {
+        stood: false,
+        count: before,
+    };
+    for b in places {
+        t = compare(first, *b, t.count);
         if t.stood {
             return t;
         }
-        count = t.count;
-        i += 1;
     }
-    Tried {
-        stood: false,
-        count,
-    }
-}
-
-// As `try_first`, for eight places.
-fn try_eight(first: u8, eight: &[u8], before: usize) -> Tried
-    requires { (length eight.now ≡ 8) × ((tried_first first eight.now before).count < 2 ^ 64) }
-    ensures { result ≡ tried_first first eight.now before }
-{
-    let t = try_four(first, &eight[..4], before);
-    if t.stood {
-        return t;
-    }
-    try_four(first, &eight[4..], t.count)
+    t
 }
 
 // Compares a run's first octet with those of the places, up to the first that is equal: elsewhere a try fails at that one pair.
 // Eight places a turn, since a turn costs more than a pair.
+#[tactic(auto, using(crate::proofs::Turns::chunks))]
 pub fn try_first(first: u8, places: &[u8], before: usize) -> Tried
     requires { (tried_first first places.now before).count < 2 ^ 64 }
     ensures { result ≡ tried_first first places.now before }
 {
+    let (eights, others) = places.as_chunks::<8>();
     let mut count = before;
-    let mut i = 0;
-    while 8 <= places.len() - i {
-        let t = try_eight(first, &places[i..i + 8], count);
+    for eight in eights {
+        let t = try_each(first, eight, count);
         if t.stood {
             return t;
         }
         count = t.count;
-        i += 8;
     }
-    try_each(first, &places[i..], count)
+    try_each(first, others, count)
 }

@@ -4,8 +4,8 @@ use mathlib.Core.Path.{◌≡◌, refl, sym, ap, ◌∙◌}
 use mathlib.Core.Bool.{Bool, true, false, not, true≢false}
 use mathlib.Core.List.{List, [], ◌∷◌, drop_last}
 use native.Mathlib.Omega.{arith}
-use lib.Dec.{eqb}
 use lib.ListN.{length}
+use borrow.Author.Tests.{eq-eqb, ne_eqb}
 use Rattle.lists.specs.Lists.{empty, all, up_to}
 use Rattle.lists.proofs.Bools.{split, and_left, and_right}
 use Rattle.lists.proofs.Parts.{up_to_stop, up_to_on}
@@ -17,6 +17,7 @@ use Rattle.protocol.specs.Pattern.{Shape, raw_text, shape_of, plain_shape, shape
 use Rattle.protocol.specs.Walk.{failed, first, is_last, later, walk_runs, walk}
 use Rattle.protocol.proofs.Steps.{first_short, later_kept}
 use Rattle.normal.specs.Literal.{literal, not_literal}
+use Rattle.walk.specs.Texts.{walk_scratch, scratch_of}
 use Rattle.normal.proofs.Steps.{normal_kept}
 use Rattle.normal.proofs.Literal.{literal_not, literal_kept, literal_normal}
 
@@ -55,9 +56,26 @@ module _ (l : List ℕ) (h : all literal l ≡ true) where
   unfolding weight
   literal_weight d = rw (literal_shape d) (omega arith)
 
--- the literal octets in front, n of them, are all there are exactly where all are literal
-pub front_whole : (l : List ℕ) (n : ℕ) → n ≡ length (up_to not_literal l) → eqb n (length l) ≡ all literal l
-front_whole l n h = rw h (all_found literal l)
+-- the literal octets in front are all there are exactly where all are literal
+module _ (l : List ℕ) where
+  pub all_literal : length (up_to not_literal l) ≡ length l → all literal l ≡ true
+  all_literal h = sym (all_found literal l) ∙ eq-eqb _ _ h
+
+  pub some_other : (length (up_to not_literal l) ≡ length l → ⊥) → all literal l ≡ false
+  some_other h = sym (all_found literal l) ∙ ne_eqb _ _ h
+
+  module _ (path : List ℕ) where
+    pub literal_walked : length (up_to not_literal l) ≡ length l → first false l path ≡ walk (shape_of l) path
+    unfolding shape_in
+    literal_walked h = sym (literal_walk l (all_literal h) Dialect.Rfc9309 path)
+
+    pub literal_scratch : (scratch : List ℕ) → length (up_to not_literal l) ≡ length l → scratch ≡ scratch_of l path scratch
+    unfolding scratch_of
+    literal_scratch scratch h = rw (all_literal h)
+
+    pub other_scratch : (scratch : List ℕ) → (length (up_to not_literal l) ≡ length l → ⊥) → walk_scratch l path scratch ≡ scratch_of l path scratch
+    unfolding scratch_of
+    other_scratch scratch h = rw (some_other h)
 
 -- the literal octets in front of a pattern are in its first run, and so is what normalising leaves of them
 front_of_run : (stars : Bool) (l : List ℕ) → length (up_to not_literal l) ≤ length (first_run (normal stars 0 l))

@@ -1,6 +1,6 @@
 -- A walk with the pattern's weight, found or not, and the scratch after it. Assumes nothing.
 use Prim.Native.Nat.{ℕ, ◌≤◌, ◌<◌}
-use mathlib.Core.Path.{◌≡◌, sym, ap, ◌∙◌}
+use mathlib.Core.Path.{◌≡◌, refl, sym, ap, ◌∙◌}
 use mathlib.Core.Bool.{true, false, false≢true}
 use mathlib.Core.List.{List}
 use native.Mathlib.Omega.{arith}
@@ -18,9 +18,10 @@ use Rattle.protocol.specs.Normal.{normal_path}
 use Rattle.protocol.proofs.Steps.{first_short, first_in}
 use Rattle.protocol.proofs.Plain.{plain_walk, plain_weight}
 use Rattle.normal.specs.Literal.{literal, not_literal}
-use Rattle.walk.specs.Texts.{scratch_in, weigh_scratch}
+use Rattle.normal.specs.Runs.{run_scratch}
+use Rattle.walk.specs.Texts.{walk_scratch, scratch_in, weigh_scratch}
 use Rattle.walk.specs.Weights.{weighed_walk, weighed}
-use Rattle.walk.proofs.Literal.{literal_walk, literal_weight, front_fails}
+use Rattle.walk.proofs.Literal.{all_literal, some_other, literal_walk, literal_weight, front_fails}
 
 module _ (d : Dialect) (pattern path : List ℕ) where
   module _ (w : Walked) (h : w ≡ walk (shape_in d pattern) path) where
@@ -32,12 +33,13 @@ module _ (d : Dialect) (pattern path : List ℕ) where
     unfolding weighed
     weighed_found n q = rw (h, q)
 
-  pub weighed_literal : all literal pattern ≡ true → weighed_walk (first false pattern path) (length pattern) ≡ weighed d pattern path
+  pub weighed_whole : length (up_to not_literal pattern) ≡ length pattern → weighed_walk (first false pattern path) (length pattern) ≡ weighed d pattern path
   unfolding weighed
-  weighed_literal h = rw (literal_walk pattern h d path, literal_weight pattern h d)
+  weighed_whole h =
+      let l : all literal pattern ≡ true = all_literal pattern h in rw (literal_walk pattern l d path, literal_weight pattern l d)
 
-  pub weighed_front : (w : Walked) → w ≡ failed 0 → length path < length (up_to not_literal pattern) → weighed_walk w 0 ≡ weighed d pattern path
-  weighed_front w e h = weighed_not_found w (e ∙ sym (front_fails d pattern path h)) (ap (λ (v : Walked). v.stood) e)
+  pub weighed_front : length path < length (up_to not_literal pattern) → weighed_walk (failed 0) 0 ≡ weighed d pattern path
+  weighed_front h = weighed_not_found (failed 0) (sym (front_fails d pattern path h)) refl
 
   -- the scratch, by what is known of the literal octets in front
   module _ (scratch : List ℕ) where
@@ -46,13 +48,23 @@ module _ (d : Dialect) (pattern path : List ℕ) where
     scratch_front h = rw (lt-ltb (length path) (length (up_to not_literal pattern)) h)
 
     module _ (h : length (up_to not_literal pattern) ≤ length path) where
-      pub scratch_literal : all literal pattern ≡ true → scratch ≡ weigh_scratch d pattern path scratch
+      pub scratch_whole : length (up_to not_literal pattern) ≡ length pattern → scratch ≡ weigh_scratch d pattern path scratch
       unfolding weigh_scratch
-      scratch_literal e = rw (le-ltb (length path) (length (up_to not_literal pattern)) h, e)
+      scratch_whole e = rw (le-ltb (length path) (length (up_to not_literal pattern)) h, all_literal pattern e)
 
-      pub scratch_walked : all literal pattern ≡ false → scratch_in d pattern path scratch ≡ weigh_scratch d pattern path scratch
+      scratch_walked : (length (up_to not_literal pattern) ≡ length pattern → ⊥) → scratch_in d pattern path scratch ≡ weigh_scratch d pattern path scratch
       unfolding weigh_scratch
-      scratch_walked e = rw (le-ltb (length path) (length (up_to not_literal pattern)) h, e)
+      scratch_walked e = rw (le-ltb (length path) (length (up_to not_literal pattern)) h, some_other pattern e)
+
+      pub scratch_starred : (length (up_to not_literal pattern) ≡ length pattern → ⊥) → d ≡ Dialect.Rfc9309
+          → walk_scratch pattern path scratch ≡ weigh_scratch d pattern path scratch
+      unfolding scratch_in
+      scratch_starred e f = ap (λ (x : Dialect). scratch_in x pattern path scratch) (sym f) ∙ scratch_walked e
+
+      pub scratch_plain : (length (up_to not_literal pattern) ≡ length pattern → ⊥) → d ≡ Dialect.Draft1996
+          → run_scratch false pattern scratch ≡ weigh_scratch d pattern path scratch
+      unfolding scratch_in
+      scratch_plain e f = ap (λ (x : Dialect). scratch_in x pattern path scratch) (sym f) ∙ scratch_walked e
 
 -- one run: where it stands, it covers as much of the path as it weighs
 placed_covers : (n : ℕ) (x : Tried) → (placed n 0 x).stood ≡ true → (placed n 0 x).past ≡ n

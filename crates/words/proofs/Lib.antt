@@ -1,3 +1,3 @@
 pub mod Words
 pub mod Markings
-mod Zeros
+pub mod Zeros

@@ -13,6 +13,7 @@ use borrow.Author.Tests.{leb-true, leb-false}
 use Rattle.lists.specs.Lists.{any, up_to}
 use Rattle.lists.proofs.Bools.{split}
 use Rattle.lists.proofs.Parts.{up_to_stop, up_to_on}
+use Rattle.protocol.specs.Octets.{within}
 use Rattle.words.specs.Words.{octets_of, among, mark, marked}
 use Rattle.words.proofs.Words.{repeated, octets_repeated, Each, each_self, each_and, each_or, each_xor, each_sum, each_as}
 
@@ -109,6 +110,21 @@ module _ (low high : ℕ) (hl : low ≤ 128) (hh : high ≤ 127) where
       let three = each_or n w (λ x. bit_or (bit_xor (bit_and x 127 + (128 - low)) 128) (bit_and x 127 + (127 - high))) (λ x. x) _ w two (each_self n w) in
       each_and n w _ (λ x. 128) _ (repeated 128 n) three top ∙ each_as n w outside_of (mark (among low high false)) outside_marks
 
+-- the same as the code computes it
+pub outside_known : (w low high a b : ℕ) → low ≤ 128 → high ≤ 127 → a ≡ 128 - low → b ≡ 127 - high
+    → octets_of 8
+    (bit_and
+    (bit_or
+    (bit_or (bit_xor (bit_and w 0x7F7F_7F7F_7F7F_7F7F + 0x0101_0101_0101_0101 * a) 0x8080_8080_8080_8080)
+    (bit_and w 0x7F7F_7F7F_7F7F_7F7F + 0x0101_0101_0101_0101 * b)) w)
+    0x8080_8080_8080_8080)
+    ≡ map (mark (among low high false)) (octets_of 8 w)
+unfolding repeated
+outside_known w low high a b hl hh p q =
+    let under : 0x0101_0101_0101_0101 * a ≡ repeated (128 - low) 8 = omega arith in
+    let over : 0x0101_0101_0101_0101 * b ≡ repeated (127 - high) 8 = omega arith in
+    rw (under, over) (outside_word low high hl hh 8 w)
+
 turned : (b : Bool) → bit_xor (if not b then 128 else 0) 128 ≡ (if b then 128 else 0)
 turned true = refl
 turned false = refl
@@ -118,6 +134,11 @@ pub turned_marks : (f : ℕ → Bool) (n w m : ℕ) → Each n w (mark (λ x. no
 turned_marks f n w m h =
     each_xor n w (mark (λ x. not (f x))) (λ x. 128) m (repeated 128 n) h (octets_repeated 128 n w (omega arith))
     ∙ each_as n w (λ x. bit_xor (mark (λ y. not (f y)) x) 128) (mark f) (λ x k. turned (f x))
+
+pub inside_known : (w low high m : ℕ) (inside : Bool) → inside ≡ true → octets_of 8 m ≡ map (mark (among low high false)) (octets_of 8 w)
+    → octets_of 8 (bit_xor m 0x8080_8080_8080_8080) ≡ map (mark (among low high inside)) (octets_of 8 w)
+unfolding repeated
+inside_known w low high m inside e h = rw e (turned_marks (within low high) 8 w m h)
 
 -- marks for one test, and for another
 either : (a b : Bool) → bit_or (if a then 128 else 0) (if b then 128 else 0) ≡ (if a || b then 128 else 0)

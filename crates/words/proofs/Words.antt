@@ -1,11 +1,19 @@
 -- The octets of a word: they tell it, and bit operations and sums work on each of them apart. Assumes nothing.
 use Prim.Native.Nat.{ℕ, zero, suc, ◌+◌, ◌*◌, ◌/◌, ◌%◌, ◌^◌, ◌≤◌, ◌<◌}
-use mathlib.Core.Path.{◌≡◌, refl, ap, ap₂, ◌∙◌}
+use mathlib.Core.Path.{◌≡◌, refl, sym, ap, ap₂, ◌∙◌}
 use mathlib.Core.List.{List, [], ◌∷◌, map, zip_with}
 use native.Mathlib.Omega.{arith}
-use lib.ListN.{length, take, drop, get_or}
-use lib.Bits.{bit_and, bit_or, bit_xor, and_shr, and_mod, or_shr, or_mod, xor_shr, xor_mod}
+use native.Mathlib.Nat.{div-div-eq-div-mul, pow-suc}
+use lib.ListN.{length, take, drop, get_or, length-take}
+use lib.Seq.{get_or-take, get_or-drop}
+use Rattle.std.proofs.lemmas.List.{get_or_past}
+use lib.Dec.{ltb}
+use borrow.Author.Tests.{ltb-true, ltb-false}
+use Rattle.lists.proofs.Bools.{split}
 use Rattle.lists.proofs.Scans.{drop_one}
+use lib.Bits.{bit_and, bit_or, bit_xor, and_shr, and_mod, or_shr, or_mod, xor_shr, xor_mod}
+use Rattle.std.specs.Int.{w64, bytes_low_first, from_le_bytes}
+use Rattle.std.proofs.lemmas.Nat.{le_bytes_8}
 use Rattle.words.specs.Words.{octets_of}
 
 -- words of the same octets are the same
@@ -91,6 +99,60 @@ pub each_as : (n w : ℕ) (f g : ℕ → ℕ) → ((x : ℕ) → x < 256 → f x
 unfolding octets_of
 each_as zero w f g h = refl
 each_as (suc n) w f g h = ap₂ ◌∷◌ (h (w % 256) (omega arith)) (each_as n (w / 256) f g h)
+
+next_octet : (i w : ℕ) → w / 256 ^ i / 256 ≡ w / 256 ^ suc i
+next_octet i w = div-div-eq-div-mul w (256 ^ i) 256 ∙ ap (λ (k : ℕ). w / k) (omega (arith, pow-suc 256 i))
+
+-- the octets of a number, as the library counts them
+octets_low : (n i w : ℕ) → octets_of n (w / 256 ^ i) ≡ bytes_low_first i n w
+unfolding octets_of
+octets_low zero i w = refl
+octets_low (suc n) zero w = ap₂ ◌∷◌ (omega arith) (ap (octets_of n) (omega arith) ∙ octets_low n 1 w)
+octets_low (suc n) (suc i) w = ap₂ ◌∷◌ refl (ap (octets_of n) (next_octet (suc i) w) ∙ octets_low n (suc (suc i)) w)
+
+-- eight octets make a word of them
+pub octets_read : (l : List ℕ) (w : ℕ) → length l ≡ 8 → ((i : ℕ) → get_or l i 0 < 256) → w ≡ from_le_bytes w64 l → octets_of 8 w ≡ l
+octets_read l w h small e = ap (octets_of 8) (omega arith) ∙ octets_low 8 0 w ∙ le_bytes_8 l w h small e
+
+-- the octets of a part of a text
+pub octets_fit : (s : List ℕ) (n at : ℕ) → ((i : ℕ) → get_or s i 0 < 256) → (i : ℕ) → get_or (take n (drop at s)) i 0 < 256
+octets_fit s n at small i =
+    split (ltb i n) (λ p. rw (get_or-take n (drop at s) i 0 (ltb-true i n p), get_or-drop) (small _))
+    (λ p. rw (get_or_past (take n (drop at s)) i 0 (omega (arith, ltb-false i n p, length-take n (drop at s)))) (omega arith))
+
+-- n octets of a text from the index at + k on, each read by its index
+read : List ℕ → ℕ → ℕ → ℕ → List ℕ
+read s at k zero = []
+read s at k (suc n) = get_or s (at + k) 0 ∷ read s at (suc k) n
+
+module _ (s : List ℕ) (at : ℕ) where
+  read_all : (n k : ℕ) → at + k + n ≤ length s → read s at k n ≡ take n (drop (at + k) s)
+  unfolding read
+  read_all zero k h = refl
+  read_all (suc n) k h =
+      let next : at + suc k ≡ at + k + 1 = omega arith in
+      rw (drop_one s (at + k) 0 (omega arith))
+      (ap (λ (l : List ℕ). get_or s (at + k) 0 ∷ l) (read_all n (suc k) (omega arith) ∙ ap (λ (i : ℕ). take n (drop i s)) next))
+
+  abbrev eight : List ℕ
+  eight =
+      get_or s at 0
+      ∷ get_or s (at + 1) 0
+      ∷ get_or s (at + 2) 0
+      ∷ get_or s (at + 3) 0
+      ∷ get_or s (at + 4) 0
+      ∷ get_or s (at + 5) 0
+      ∷ get_or s (at + 6) 0
+      ∷ get_or s (at + 7) 0
+      ∷ []
+
+  -- the word of eight
+  pub word_read : (w : ℕ) → at + 8 ≤ length s → ((i : ℕ) → get_or s i 0 < 256) → w ≡ from_le_bytes w64 eight → octets_of 8 w ≡ take 8 (drop at s)
+  unfolding read
+  word_read w h small e =
+      let here : at + 0 ≡ at = omega arith in
+      let whole : eight ≡ take 8 (drop at s) = rw here at (read_all 8 0 (omega arith)) in
+      octets_read (take 8 (drop at s)) w (sym (ap length whole)) (octets_fit s 8 at small) (e ∙ ap (from_le_bytes w64) whole)
 
 -- the n octets of a text from the index at + k on, as one number
 unfoldable pub word_at : List ℕ → ℕ → ℕ → ℕ → ℕ

@@ -25,9 +25,9 @@ consumes_both (Some l) (Some m) (Some n) xs ys p q = p ∙ ap (λ (t : List ℕ)
 pub loop-n-preserved : goal.loop-n-preserved
 loop-n-preserved g c =
     let l = c.loop-n in
-    let put = take_put_behind l.n (length l.buffer - l.n) c.in-Ok.more l.buffer c.read.new.buf l.invariant.inside c.in-Ok.ensures.bound.0 in
+    let put = take_put_behind l.n (length l.buffer - l.n) c.in_ok-more.more l.buffer c.read.new.buf l.invariant.inside c.in_ok-more.ensures.bound.0 in
     record {
       same_length = search rules;
       inside = search rules;
-      consumed = subst (Consumes _ _) (sym put) (consumes_both _ _ _ _ _ l.invariant.consumed c.in-Ok.ensures.bytes.0);
+      consumed = subst (Consumes _ _) (sym put) (consumes_both _ _ _ _ _ l.invariant.consumed c.in_ok-more.ensures.bytes.0);
     }

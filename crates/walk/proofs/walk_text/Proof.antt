@@ -1,5 +1,5 @@
 -- `walk::walk_text` meets its contract: the walk of what is left of the text gives the whole walk's outcome. Assumes nothing.
-use Prim.Native.Nat.{ℕ, ◌≤◌, ◌<◌, ◌-◌, ◌+◌}
+use Prim.Native.Nat.{ℕ, ◌≤◌, ◌<◌, ◌-◌, ◌+◌, ◌^◌}
 use mathlib.Core.Path.{◌≡◌, refl, sym, ap, ◌∙◌}
 use mathlib.Core.Bool.{Bool, true, ◌&&◌}
 use mathlib.Core.List.{List}
@@ -162,12 +162,10 @@ later_raw-w-requires c κs =
     let f = c.before.before.before in
     let s = turn f in
     let v = next i.result (normal_run true (run f)) (path s) s.loop-end.w in
-    let e = goes_on f i.result v (run_scratch true (run f) s.loop-end.scratch) i.ensures refl refl ∙ gives s in (
-      omega (arith, same s, (start s).requires.0),
-      stood f,
-      s.loop-end.invariant.1,
-      omega (arith, (start s).requires.1, (later_costs (end_mark s) (runs_of (drop (end f) (text s))) (path s) v).0, ap (λ (w : Walked). w.count) (both e).0),
-    )
+    let e = goes_on f i.result v (run_scratch true (run f) s.loop-end.scratch) i.ensures refl refl ∙ gives s in
+    let lent : length (path s) ≤ length s.loop-end.scratch = omega (arith, same s, (start s).requires.0) in
+    let fits : v.count < 2 ^ 64 = omega (arith, (start s).requires.1, (later_costs (end_mark s) (runs_of (drop (end f) (text s))) (path s) v).0, ap (λ (w : Walked). w.count) (both e).0) in
+    (lent, (stood f, (s.loop-end.invariant.1, fits)))
 
 abbrev found : tie.After-slice_known-in-loop-end-1 invariant-loop-end decreases-loop-end → tie.After-find invariant-loop-end decreases-loop-end
 found c = c.before.before.before.before.before.before
