@@ -35,7 +35,8 @@ fn clear(slice: &mut [usize], n: usize)
     slice[..n].fill(0);
 }
 
-// Each path goes through all rules that apply.
+// Each path goes through all rules that apply. A struct of the call would hold the lent memory too, and be borrowed again for each path; so what has to
+// fit stays a clause.
 fn lead_paths(
     classes: &Classes,
     dialect: Dialect,

@@ -23,7 +23,7 @@ pub struct Pass {
     pub joins: bool,
 }
 
-// The rules in the table, and how far the lines are read for them.
+// How many rules are in the lent table, which no heap lets grow, and how far the lines are read for them.
 #[derive(Clone, Copy)]
 pub struct Collected {
     pub count: usize,
@@ -51,14 +51,16 @@ fn line_kind(classes: &Classes, line: &[u8]) -> Kind
     kinds::answers::line_answer(classes, line).unwrap_or(Kind::Other)
 }
 
-// The group that an agent line with that value starts or joins applies: it is theirs who have the name `who`.
+// The group that an agent line with that value starts or joins applies: it is theirs who have the name `who`. As hearing's `hear_agent` has it, for one
+// name, and with no count of unread lines.
 fn group_applies(classes: &Classes, pass: Pass, who: &[u8], value: &[u8]) -> bool
     ensures { result ≡ ((pass.joins && pass.applies) || names value.now who.now) }
 {
     pass.joins && pass.applies || readable::names(classes, value, who)
 }
 
-// A file that is read for the rules of the groups that `who` names.
+// A file that is read for the rules of the groups that `who` names. That a pass stands at a line of it is asked for: a pass is kept between calls,
+// without its file.
 #[derive(Clone, Copy)]
 struct Reader<'a> {
     classes: &'a Classes,
@@ -159,7 +161,8 @@ impl Reader<'_> {
     }
 }
 
-// The rules from a line on whose groups `who` names, in file order, as many as the table has room for.
+// The rules from a line on whose groups `who` names, in file order, as many as the table has room for. A loop of its own, and not passes' `gather`: with
+// a loop or a function in common, a question takes 4 to 33 % more time.
 pub fn collect(
     classes: &Classes,
     file: &[u8],

@@ -16,6 +16,7 @@ use passes::audience::Chosen;
 use protocol::{Audience, Dialect, Place, Refusal, Verdict};
 
 // Why a decision is refused; and the dialect, where it isn't.
+#[tactic(auto, using(readable::proofs::Asking::asked_later), unfolding(protocol::specs::Refusals::decide_refusal))]
 pub fn check_question(
     classes: &Classes,
     file: &[u8],
@@ -26,13 +27,7 @@ pub fn check_question(
     ensures refusal { number_of result ≡ decide_refusal dialect file.now name.now path.now }
     ensures dialect { IfOk result (λ d. d ≡ dialect_of dialect) }
 {
-    let chosen = Dialect::try_from(dialect)?;
-    if 512000 < file.len() {
-        return Err(Refusal::TooLong);
-    }
-    if readable::is_bad_name(classes, name) {
-        return Err(Refusal::BadName);
-    }
+    let chosen = readable::check_asker(classes, dialect, file, name)?;
     paths::check_path(path)?;
     Ok(chosen)
 }

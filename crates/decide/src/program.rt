@@ -7,7 +7,7 @@ use octets::Classes;
 use output::Line;
 use protocol::Refusal;
 
-// The name is the first line of the input, the path the second, and the file the rest.
+// The name is the first line of the input, the path the second, and the file the rest. 0 is the RFC's number: `decide` refuses unknown numbers itself.
 #[tactic(auto, using(protocol::proofs::Limits::output_refused, crate::proofs::Outputs::output_decided), unfolding(protocol::specs::Refusals::unless_refused))]
 pub fn output(input: &[u8]) -> Line
     ensures { result ≡ output input.now }

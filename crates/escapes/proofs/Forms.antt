@@ -15,7 +15,7 @@ use Rattle.protocol.specs.Octets.{unreserved, hex}
 use Rattle.protocol.specs.Normal.{encoded, meant, escape, is_escape, escape_at, is_encoded, plain, replacement}
 use Rattle.protocol.proofs.Sizes.{no_percent}
 use Rattle.protocol.proofs.Plain.{escape_hex}
-use Rattle.escapes.specs.Escapes.{kept, meant_by}
+use Rattle.escapes.specs.Escapes.{kept, changed, meant_by}
 use Rattle.escapes.proofs.Sorts.{escape_encoded}
 
 percent_not_kept : (stars : Bool) (x : ℕ) → x ≡ code "%" → kept stars x ≡ false
@@ -54,25 +54,27 @@ escape_meant : (d e : ℕ) → hex d ≡ true → hex e ≡ true → escape d e 
 unfolding escape
 escape_meant d e h k = split (unreserved (meant d e)) (λ u. rw u) (λ u. rw u (rw u at (escape_encoded d e h k u)))
 
-replacement_escape : (stars : Bool) (s : List ℕ) (y : ℕ) → meant_by s ≡ Some y
-    → replacement stars (get_or s 0 0) (drop 1 s) ≡ (if unreserved y then y ∷ [] else encoded y)
-unfolding replacement escape_at
-replacement_escape stars [] y h = cc
-replacement_escape stars (c ∷ []) y h = cc
-replacement_escape stars (c ∷ d ∷ []) y h = cc
-replacement_escape stars (c ∷ d ∷ e ∷ l) y h =
+changed_meant : (s : List ℕ) (y : ℕ) → meant_by s ≡ Some y → changed (get_or s 0 0) (drop 1 s) ≡ (if unreserved y then y ∷ [] else encoded y)
+unfolding escape_at
+changed_meant [] y h = cc
+changed_meant (c ∷ []) y h = cc
+changed_meant (c ∷ d ∷ []) y h = cc
+changed_meant (c ∷ d ∷ e ∷ l) y h =
     let k : is_escape c (d ∷ e ∷ l) ≡ true = means_escape (c ∷ d ∷ e ∷ l) y h in
     let x = escape_hex c d e l k in
     let m : meant d e ≡ y = cc (rw k at (three c d e l)) in
     rw (k, ← m) (escape_meant d e x.0 x.1)
 
-pub replacement_decoded : (stars : Bool) (s : List ℕ) (y : ℕ) → meant_by s ≡ Some y → unreserved y ≡ true → replacement stars (get_or s 0 0) (drop 1 s) ≡ y ∷ []
-replacement_decoded stars s y h u = rw u at (replacement_escape stars s y h)
+pub changed_decoded : (s : List ℕ) (y : ℕ) → meant_by s ≡ Some y → unreserved y ≡ true → changed (get_or s 0 0) (drop 1 s) ≡ y ∷ []
+changed_decoded s y h u = rw u at (changed_meant s y h)
 
-pub replacement_again : (stars : Bool) (s : List ℕ) (y : ℕ) → meant_by s ≡ Some y → unreserved y ≡ false → replacement stars (get_or s 0 0) (drop 1 s) ≡ encoded y
-replacement_again stars s y h u = rw u at (replacement_escape stars s y h)
+pub changed_again : (s : List ℕ) (y : ℕ) → meant_by s ≡ Some y → unreserved y ≡ false → changed (get_or s 0 0) (drop 1 s) ≡ encoded y
+changed_again s y h u = rw u at (changed_meant s y h)
 
-pub replacement_alone : (stars : Bool) (s : List ℕ) → kept stars (get_or s 0 0) ≡ false → meant_by s ≡ None
-    → replacement stars (get_or s 0 0) (drop 1 s) ≡ encoded (get_or s 0 0)
+pub changed_alone : (s : List ℕ) → meant_by s ≡ None → changed (get_or s 0 0) (drop 1 s) ≡ encoded (get_or s 0 0)
+changed_alone s h = rw (means_none s h)
+
+-- where the octet doesn't stay as it is, that is its replacement
+pub changed_is : (stars : Bool) (x : ℕ) (l : List ℕ) → kept stars x ≡ false → changed x l ≡ replacement stars x l
 unfolding replacement plain
-replacement_alone stars s k h = rw (means_none s h, not-false (is_encoded stars (get_or s 0 0)) k)
+changed_is stars x l k = rw (not-false (is_encoded stars x) k)

@@ -5,7 +5,7 @@
 ghost use Rattle.std.specs.Prelude.{◌≡◌, true, ◌+◌, ◌≤◌, ◌<◌, length, drop, get_or};
 ghost use Rattle.std.proofs.lemmas.List.Edits.{sets};
 ghost use Rattle.protocol.specs.Normal.{encoded, replacement};
-ghost use Rattle.escapes.specs.Escapes.{kept, octets_of, taken, meant_by};
+ghost use Rattle.escapes.specs.Escapes.{changed, kept, octets_of, taken, meant_by};
 
 use octets::Classes;
 use protocol::Sort;
@@ -28,7 +28,7 @@ impl Replacement {
         }
     }
 
-    // Writes it at a place, and tells the place past it.
+    // Writes it at a place of lent memory, since nothing grows without a heap, and tells the place past it.
     #[tactic(auto, using(crate::proofs::Writes::put_sets))]
     pub fn write(self, out: &mut [u8], at: usize) -> usize
         requires { at + length (octets_of self) ≤ length out.old }
@@ -84,8 +84,23 @@ fn octet_meant(classes: &Classes, s: &[u8]) -> Option<u8>
     }
 }
 
-// What stands for the text's first octet, or for the escape that begins there, and how many octets of the text that takes.
-#[tactic(auto, using(crate::proofs::Forms::kept_alone, crate::proofs::Forms::replacement_kept, crate::proofs::Forms::means_escape, crate::proofs::Forms::means_none, crate::proofs::Forms::replacement_decoded, crate::proofs::Forms::replacement_again, crate::proofs::Forms::replacement_alone))]
+// What stands for the text's first octet where it doesn't stay as it is, or for the escape that begins there, and how many octets of the text that
+// takes.
+#[tactic(auto, using(crate::proofs::Forms::means_escape, crate::proofs::Forms::means_none, crate::proofs::Forms::changed_decoded, crate::proofs::Forms::changed_again, crate::proofs::Forms::changed_alone))]
+pub fn changed_first(classes: &Classes, s: &[u8]) -> (Replacement, usize)
+    requires { 0 < length s.now }
+    ensures octets { octets_of result.0 ≡ changed (get_or s.now 0 0) (drop 1 s.now) }
+    ensures taken { result.1 ≡ taken (get_or s.now 0 0) (drop 1 s.now) }
+{
+    match octet_meant(classes, s) {
+        Some(y) if classes.is_of(Sort::Unreserved, y) => (Replacement::Octet(y), 3),
+        Some(y) => (Replacement::Escape(encode(y)), 3),
+        None => (Replacement::Escape(encode(s[0])), 1),
+    }
+}
+
+// The same of any octet.
+#[tactic(auto, using(crate::proofs::Forms::kept_alone, crate::proofs::Forms::replacement_kept, crate::proofs::Forms::changed_is))]
 pub fn replace_first(classes: &Classes, stars: bool, s: &[u8]) -> (Replacement, usize)
     requires { 0 < length s.now }
     ensures octets { octets_of result.0 ≡ replacement stars (get_or s.now 0 0) (drop 1 s.now) }
@@ -93,11 +108,8 @@ pub fn replace_first(classes: &Classes, stars: bool, s: &[u8]) -> (Replacement, 
 {
     let x = s[0];
     if is_kept(stars, x) {
-        return (Replacement::Octet(x), 1);
-    }
-    match octet_meant(classes, s) {
-        Some(y) if classes.is_of(Sort::Unreserved, y) => (Replacement::Octet(y), 3),
-        Some(y) => (Replacement::Escape(encode(y)), 3),
-        None => (Replacement::Escape(encode(x)), 1),
+        (Replacement::Octet(x), 1)
+    } else {
+        changed_first(classes, s)
     }
 }

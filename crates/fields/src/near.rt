@@ -65,7 +65,7 @@ fn begins_agent(classes: &Classes, w: u64, s: &[u8]) -> bool
         && classes.is_same(s[9], FIELDS[0][9])
 }
 
-// The field whose name a text begins with.
+// The field whose name a text begins with, by its first eight octets: as `field_at`, but that the agent's name is longer than a word.
 fn field_in(classes: &Classes, s: &[u8]) -> Option<Field>
     requires { 10 ≤ length s.now }
     ensures { result ≡ field_at s.now }
@@ -100,8 +100,8 @@ fn near_value(classes: &Classes, r: &[u8], colon: usize) -> Option<usize>
     None
 }
 
-// The head of a line that is indented by so many octets, or that it has none, where those behind them tell it. It leaves `head_of` to its callers, so
-// that the compiler needn't hand it the text in memory, at each line.
+// The head of a line that is indented by so many octets, or that it has none: where the octets behind them tell it; and nothing where they don't. It
+// leaves `head_of` to its callers, so that the compiler needn't hand it the text in memory, at each line.
 fn indented(classes: &Classes, r: &[u8], start: usize) -> Option<Option<Head>>
     requires { start ≡ lead r.now }
     ensures { IfSome result (λ told. told ≡ head_of r.now) }

@@ -1,17 +1,15 @@
--- The kind of a line for a pass over a file, to which blank, noise and other lines are all one; and what is told of a value. Assumes nothing.
+-- The kind of a line for a pass over a file, to which blank, noise and other lines are all one; and the value of a text. Assumes nothing.
 use Rattle.std.specs.Prelude.{ℕ, List, Option, Some, None, length}
-use Rattle.lists.specs.Lists.{all, up_to}
+use Rattle.lists.specs.Lists.{up_to}
 use Rattle.protocol.specs.declared.Kind.{Kind}
 use Rattle.protocol.specs.declared.Place.{Place}
 use Rattle.protocol.specs.Text.{trim_end}
 use Rattle.protocol.specs.Lines.{place_at, place_after, line_text}
 use Rattle.protocol.specs.Kinds.{kind_of}
 use Rattle.protocol.specs.Classes.{stop}
-use Rattle.readable.specs.Due.{ordinary}
 use Rattle.fields.specs.declared.Head.{Head}
 use Rattle.fields.specs.Fields.{head_of, value_at}
 use Rattle.kinds.specs.declared.entry.Entry.{Entry}
-use Rattle.kinds.specs.declared.entry.Value.{Value}
 
 -- "Blank, noise and other lines change nothing": other stands for all three
 abbrev pub entry_kind : Kind → Kind
@@ -33,7 +31,3 @@ entry_told l = record { kind = entry_kind (kind_of (line_text l)); end = examine
 -- the value that a text begins with
 abbrev pub value_front : List ℕ → List ℕ
 value_front l = trim_end (up_to stop l)
-
--- its octets, and whether all of them are ordinary
-abbrev pub value_told : List ℕ → Value
-value_told l = record { octets = length (value_front l); ordinary = all ordinary (value_front l) }

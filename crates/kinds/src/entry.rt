@@ -8,13 +8,14 @@ ghost use Rattle.protocol.specs.Readable.{readable_pattern};
 ghost use Rattle.protocol.specs.Kinds.{agent_at, pattern_at, kind_of};
 ghost use Rattle.readable.specs.Due.{ordinary, unusual};
 ghost use Rattle.fields.specs.Fields.{head_of, value_at, kind_as};
-ghost use Rattle.kinds.specs.Entries.{entry_told, value_told};
+ghost use Rattle.kinds.specs.Entries.{entry_told, value_front};
 
 use fields::{Field, Head};
 use octets::Classes;
 use protocol::{Agent, Kind, Pattern, Place};
 
-// A line, for a pass: its kind, and where what is examined of it ends, from where the next line is looked for.
+// A line, for a pass: its kind, as `entry_kind` tells it, to which blank and noise lines are other lines too; and where what is examined of it ends,
+// from where the next line is looked for.
 #[derive(Clone, Copy)]
 pub struct Entry {
     pub kind: Kind,
@@ -23,12 +24,13 @@ pub struct Entry {
 
 // The octets of a value, and whether all of them are ordinary. Both are told of each value, so that they are no `Option`.
 #[derive(Clone, Copy)]
-struct Value {
-    octets: usize,
-    ordinary: bool,
+struct Value<'a> {
+    octets: &'a [u8],
+    usual: bool,
+    ghost told: { usual ≡ all ordinary octets.now },
 }
 
-// How many ordinary octets stand in front. `readable::ordinary_front` tells the same; with it in this place, a line takes a tenth more time. An
+// How many ordinary octets stand in front. `readable::ordinary_front` tells the same; with it alone in this place, a line takes a tenth more time. An
 // iterator over the words would need the octets that are passed counted beside it.
 #[inline(always)]
 fn ordinary_words(s: &[u8]) -> usize
@@ -48,27 +50,27 @@ fn ordinary_words(s: &[u8]) -> usize
 // The value that a text begins with. Where spaces and tabs and then a stop stand behind the ordinary octets, these are the value; otherwise it goes
 // on behind them, and they are not looked at again.
 #[inline(always)]
-fn value_in(classes: &Classes, s: &[u8]) -> Value
-    ensures { result ≡ value_told s.now }
+fn value_in<'a>(classes: &Classes, s: &'a [u8]) -> Value<'a>
+    ensures { result.octets.now ≡ value_front s.now }
 {
-    let octets = ordinary_words(s);
-    if crate::line::ends_at(classes, s, Place { offset: octets }) {
+    let n = ordinary_words(s);
+    if crate::line::ends_at(classes, s, Place { offset: n }) {
         return Value {
-            octets,
-            ordinary: true,
+            octets: &s[..n],
+            usual: true,
         };
     }
-    let end = octets + text::lead(classes, &s[octets..]);
+    let end = n + text::lead(classes, &s[n..]);
     if crate::line::ends_at(classes, s, Place { offset: end }) {
         return Value {
-            octets,
-            ordinary: true,
+            octets: &s[..n],
+            usual: true,
         };
     }
-    let all = octets + crate::line::value_length(classes, &s[octets..]);
+    let all = n + crate::line::value_length(classes, &s[n..]);
     Value {
-        octets: all,
-        ordinary: false,
+        octets: &s[..all],
+        usual: false,
     }
 }
 
@@ -91,42 +93,39 @@ fn agent_at(classes: &Classes, place: Place, value: &[u8]) -> Agent
 // A value is a readable pattern. Ordinary octets are whole characters.
 #[tactic(auto, using(crate::proofs::Values::ordinary_readable))]
 #[inline(always)]
-fn is_pattern(value: &[u8], usual: bool) -> bool
-    requires { usual ≡ all ordinary value.now }
-    ensures { result ≡ readable_pattern value.now }
+fn is_pattern(value: Value) -> bool
+    ensures { result ≡ readable_pattern value.entry.octets.now }
 {
-    if usual {
-        return readable::pattern_start(value);
+    if value.usual {
+        return readable::pattern_start(value.octets);
     }
-    readable::readable_pattern(value)
+    readable::readable_pattern(value.octets)
 }
 
-// The pattern of a value, likewise; `usual` says whether all its octets are ordinary.
+// The pattern of a value, likewise.
 #[tactic(auto, using(crate::proofs::Kinding::pattern_none, crate::proofs::Kinding::pattern_readable, crate::proofs::Kinding::pattern_unreadable))]
 #[inline(always)]
-fn pattern_at(place: Place, value: &[u8], usual: bool) -> Pattern
-    requires { usual ≡ all ordinary value.now }
-    ensures { result ≡ pattern_at place value.now }
+fn pattern_at(place: Place, value: Value) -> Pattern
+    ensures { result ≡ pattern_at place value.entry.octets.now }
 {
-    if value.is_empty() {
+    if value.octets.is_empty() {
         return Pattern::Empty;
     }
-    if is_pattern(value, usual) {
-        Pattern::Readable(place, value.len())
+    if is_pattern(value) {
+        Pattern::Readable(place, value.octets.len())
     } else {
-        Pattern::Unreadable(place, value.len())
+        Pattern::Unreadable(place, value.octets.len())
     }
 }
 
 // The kind of a line with that head, whose value is given.
 #[inline(always)]
-fn kind_with(classes: &Classes, head: Head, value: &[u8], usual: bool) -> Kind
-    requires { usual ≡ all ordinary value.now }
-    ensures { result ≡ kind_as head.field head.value value.now }
+fn kind_with(classes: &Classes, head: Head, value: Value) -> Kind
+    ensures { result ≡ kind_as head.field head.value value.entry.octets.now }
 {
     match head.field {
-        Field::Agent => Kind::Agent(agent_at(classes, head.value, value)),
-        Field::Rule(side) => Kind::Rule(side, pattern_at(head.value, value, usual)),
+        Field::Agent => Kind::Agent(agent_at(classes, head.value, value.octets)),
+        Field::Rule(side) => Kind::Rule(side, pattern_at(head.value, value)),
     }
 }
 
@@ -138,11 +137,10 @@ pub fn entry_at(classes: &Classes, r: &[u8], head: Head) -> Entry
     ensures end { result.end ≡ place_after head.value (length (value_at head.value r.now)) }
 {
     let start = head.value.offset;
-    let rest = &r[start..];
-    let told = value_in(classes, rest);
-    let kind = kind_with(classes, head, &rest[..told.octets], told.ordinary);
+    let value = value_in(classes, &r[start..]);
+    let kind = kind_with(classes, head, value);
     let end = Place {
-        offset: start + told.octets,
+        offset: start + value.octets.len(),
     };
     Entry { kind, end }
 }

@@ -1,11 +1,11 @@
 // The rule that leads for a path, after the rules of a table, one after the other. A rule that is walked is compared with the path only as far as
-// tells whether it matches: no count is told here.
+// tells whether it matches: no count is told here. Path and scratch stay parameters, as in walk.
 
 #![tactic(auto)]
 
 ghost use Rattle.std.specs.Prelude.{◌≡◌, false, ◌+◌, ◌≤◌, ◌<◌, ◌^◌, length};
 ghost use Rattle.walk.specs.Weights.{weighed};
-ghost use Rattle.tables.specs.Tables.{front_of, rules_from, SoundKept};
+ghost use Rattle.tables.specs.Tables.{front_of, rules_of, SoundKept};
 ghost use Rattle.leading.specs.Leading.{outdoes, settled, led, led_all, whole_weight, Room};
 
 use protocol::{Dialect, LineNumber};
@@ -113,22 +113,21 @@ fn lead(
     }
 }
 
-// After the first `count` rules of a table.
+// After the rules of a table.
 pub fn lead_all(
     dialect: Dialect,
     file: &[u8],
-    table: &[Kept],
-    count: usize,
+    rules: &[Kept],
     path: &[u8],
     scratch: &mut [u8],
     before: Leader,
 ) -> Leader
-    requires { Room file.now table.now count path.now scratch.old }
-    ensures value { result ≡ led_all dialect file.now path.now before (rules_from 0 count table.now) }
+    requires { Room file.now rules.now (length rules.now) path.now scratch.old }
+    ensures value { result ≡ led_all dialect file.now path.now before (rules_of rules.now) }
     ensures scratch_len_unchanged { length scratch.new ≡ length scratch.old }
 {
     let mut leader = before;
-    for kept in &table[..count] {
+    for kept in rules {
         if leader.is_settled(dialect) {
             break;
         }

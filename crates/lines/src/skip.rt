@@ -16,7 +16,7 @@ fn may_begin(x: u8) -> bool
     (x | 32 == FIELDS[0][0]) | (x == b' ') | (x == b'\t')
 }
 
-// A line ends with the octet, or is ended by it and the one behind it: by `|`, likewise.
+// A line ends with the octet, or is ended by it and the one behind it: by `|`, without a branch too.
 #[tactic(auto, unfolding(protocol::specs::Octets::line_end))]
 fn ends_line(x: u8) -> bool
     ensures { result ≡ line_end x }
@@ -24,7 +24,7 @@ fn ends_line(x: u8) -> bool
     (x == b'\r') | (x == b'\n')
 }
 
-// An agent or rule line may begin with the octet, likewise.
+// An agent or rule line may begin with the octet, without a branch too.
 #[tactic(auto, using(crate::proofs::Skips::entry_bits))]
 fn may_begin_entry(x: u8) -> bool
     ensures { result ≡ entry_octet x }
@@ -56,7 +56,8 @@ fn is_quiet(b: &[u8], behind: &[u8]) -> bool
         .fold(false, |found, (x, y)| found | opens_agent(*x, *y))
 }
 
-// Which of 64 octets is the first behind which an agent line may begin. By the least index and not by `position`, likewise.
+// Which of 64 octets is the first behind which an agent line may begin. By the least index and not by `position`, so that the compiler can look at many at a time; and of slices, whose
+// length who lends them knows and needn't test.
 fn front_agent(b: &[u8], behind: &[u8]) -> Option<usize>
     requires block { length b.now ≡ 64 }
     requires block_behind { length behind.now ≡ 64 }
@@ -104,7 +105,8 @@ fn tail_agent(s: &[u8]) -> usize
     }
 }
 
-// As `next_agent`, block by block: for a place from which the next such line is mostly far.
+// As `next_agent`, block by block: for a place from which the next such line is mostly far. The place goes on beside the blocks: behind the loop the rest
+// is looked at from there.
 pub fn far_agent(s: &[u8], from: Place) -> Place
     requires { from.offset < length s.now }
     ensures { result ≡ next_agent s.now from }

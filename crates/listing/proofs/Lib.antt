@@ -1,4 +1,3 @@
 pub mod Ends
 pub mod Finishing
-pub mod Refusing
 pub mod Tails

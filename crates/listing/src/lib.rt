@@ -1,4 +1,4 @@
-// A list of paths: why the call is refused, and the memory lent for the answers before the first and after the last round.
+// A list of paths: where each stands, why the call is refused, and what the memory lent for the answers holds in the end.
 
 #![tactic(auto)]
 
@@ -10,7 +10,7 @@ ghost use Rattle.listing.specs.Listing.{GoodEnds, start_at, path_at, side_for};
 use octets::Classes;
 use protocol::{Dialect, Refusal, Side};
 
-// Joined paths, with the end of each.
+// Joined paths, with the end of each, as the C caller of robots_batch lends them.
 #[derive(Clone, Copy)]
 pub struct Paths<'a> {
     pub joined: &'a [u8],
@@ -45,7 +45,7 @@ pub struct Answers<'a> {
     pub lines: &'a mut [usize],
 }
 
-// The ends decrease somewhere, or the last isn't the joined length.
+// The ends decrease somewhere, or the last isn't the joined length. No `is_sorted`: `decrease` and `last_end` go along the ends together, from 0 on.
 #[tactic(auto, using(crate::proofs::Ends::decrease_here, crate::proofs::Ends::decrease_on, crate::proofs::Ends::decrease_end, crate::proofs::Ends::last_on, crate::proofs::Ends::last_end_lem))]
 fn are_bad(ends: &[usize], joined: usize) -> bool
     ensures { result ≡ (decrease 0 ends.now || not (eqb (last_end 0 ends.now) joined)) }
@@ -61,7 +61,7 @@ fn are_bad(ends: &[usize], joined: usize) -> bool
 }
 
 // Why the call is refused, or its dialect.
-#[tactic(auto, using(protocol::proofs::Refused::refusal_here, protocol::proofs::Refused::refusal_on, protocol::proofs::Refused::unknown_dialect_lem, crate::proofs::Refusing::long_file, crate::proofs::Refusing::bad_name_lem, crate::proofs::Refusing::good_name), unfolding(protocol::specs::Refusals::refusal))]
+#[tactic(auto, using(readable::proofs::Asking::asked_later), unfolding(protocol::specs::Refusals::refusal))]
 pub fn check_call(
     classes: &Classes,
     file: &[u8],
@@ -74,13 +74,7 @@ pub fn check_call(
     ensures refusal { number_of result ≡ refusal (unknown_dialect dialect ∷ too_long file.now ∷ bad_name name.now ∷ bad_ends paths.now ends.now ∷ (13 when short) ∷ []) }
     ensures dialect { IfOk result (λ d. d ≡ dialect_of dialect) }
 {
-    let known = Dialect::try_from(dialect)?;
-    if 512000 < file.len() {
-        return Err(Refusal::TooLong);
-    }
-    if readable::is_bad_name(classes, name) {
-        return Err(Refusal::BadName);
-    }
+    let known = readable::check_asker(classes, dialect, file, name)?;
     if are_bad(ends, paths.len()) {
         return Err(Refusal::BadEnds);
     }
@@ -124,6 +118,7 @@ impl Answers<'_> {
         // The borrow checker doesn't cover the loan of a place in a slice that is a field.
         let refusals = &mut *self.refusals;
         let sides = &mut *self.sides;
+        // By its index: a path needs the end in front of it too.
         for i in 0..paths.ends.len() {
             finish_path(paths.path(i), &mut refusals[i], &mut sides[i]);
         }

@@ -55,7 +55,7 @@ fn walk_unchanged<const ROOM: usize>(pattern: &[u8], path: &[u8]) -> Walked
 }
 
 // The walk of a pattern and a path of which neither is refused, in a small room where the path is short: to clear more would take longer than most
-// walks.
+// walks. decide's `answer` chooses alike; what is called differs in each arm, so only the five numbers are left to share.
 #[tactic(auto, using(protocol::proofs::Sizes::normal_size, protocol::proofs::Limits::path_known, protocol::proofs::Limits::path_room, normal::proofs::Literal::kept_path, crate::proofs::Refusing::good_path, crate::proofs::Refusing::count_fits))]
 fn walk_path(pattern: &[u8], path: &[u8]) -> Walked
     requires { match_refusal pattern.now path.now ≡ 0 }

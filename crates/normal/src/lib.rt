@@ -55,7 +55,7 @@ fn write_rest(stars: bool, s: &[u8], out: &mut [u8], at: usize) -> usize
     let classes = Classes::new();
     let mut end = at;
     let mut rest = s;
-    // No `for`: an escape takes three octets, any other octet itself.
+    // No `for`: an escape takes three octets, and what isn't one takes one.
     while !rest.is_empty() {
         let (replacement, taken) = escapes::replace_first(&classes, stars, rest);
         end = replacement.write(out, end);
@@ -78,7 +78,8 @@ pub fn write(stars: bool, s: &[u8], out: &mut [u8]) -> usize
     write_rest(stars, &s[n..], out, n)
 }
 
-// How many the normalised octets are, where they fit a room.
+// How many the normalised octets are, where they fit a room. A loop of its own beside `write_rest`: it ends where there is no room, and nothing is lent
+// to it.
 #[tactic(auto, using(crate::proofs::Steps::first_some, crate::proofs::Steps::first_inside, crate::proofs::Steps::first_length, crate::proofs::Steps::first_least, crate::proofs::Steps::length_none, std::proofs::lemmas::Bool::Decides::nat_tests))]
 fn size_within(stars: bool, s: &[u8], room: usize) -> Option<usize>
     ensures { result ≡ (if leb (length (normal stars 0 s.now)) room then Some (length (normal stars 0 s.now)) else None) }

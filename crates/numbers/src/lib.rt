@@ -9,7 +9,7 @@ ghost use Rattle.protocol.specs.Outcomes.{line_answer_of};
 
 use protocol::{Agent, Kind, Pattern, Place, Refusal, Side};
 
-// The number of a kind, from 1 on.
+// The number of a kind, from 1 on. No `From`: it is asked for here alone.
 fn kind_number(kind: Kind) -> usize
     ensures { result ≡ kind_number kind }
 {
@@ -35,7 +35,8 @@ pub fn kind_number_of(answer: Result<Kind, Refusal>) -> usize
     answer.map_or(0, kind_number)
 }
 
-// The place in the line of an agent's value or a rule's pattern: 0 where there is none.
+// The place in the line of an agent's value or a rule's pattern: 0 where there is none, as robots_line_place answers. It and the length are two
+// functions, as those of C are.
 pub fn place_of(kind: Kind) -> Place
     ensures { result ≡ place_of kind }
 {

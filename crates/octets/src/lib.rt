@@ -43,7 +43,8 @@ fn class_range(sort: Sort) -> (u8, u8)
 }
 
 impl Classes {
-    // The table, copied. A constant is copied wherever it is named, so whoever is called from C copies it once, and lends it to all who ask.
+    // The table, copied. A constant is copied wherever it is named, so a function that is called from C copies it once and lends it; where few texts need
+    // it, it is copied where it is used.
     #[tactic(auto, using(protocol::proofs::Classes::table_tells), unfolding(lists::specs::Lists::numbers_from, lists::specs::Lists::up_to, protocol::specs::Text::octets, protocol::specs::Classes::order, protocol::specs::Octets::upper, protocol::specs::Octets::lower_case, protocol::specs::Classes::class_of, protocol::specs::Classes::class_table))]
     pub fn new() -> Self
         ensures value { result.numbers ≡ class_table }
@@ -88,7 +89,7 @@ fn hex_digit(n: u8) -> u8
     DIGITS[n as usize]
 }
 
-// The first of the two upper-case hex digits of an octet.
+// The first of the two upper-case hex digits of an octet. Two functions of an octet, and not one of a digit: so no bound is asked for.
 pub fn high_digit(x: u8) -> u8
     ensures { result ≡ hex_digit (x / 16) }
 {

@@ -20,6 +20,7 @@ fn is_star(classes: &Classes, s: &[u8]) -> bool
     let [first, rest @ ..] = s else {
         return false;
     };
+    // A test of its own: in one pattern, no octet and another octet would be one case, and the proof has to tell them apart.
     if *first != b'*' {
         return false;
     }

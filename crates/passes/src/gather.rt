@@ -22,7 +22,7 @@ use kinds::entry::Entry;
 use octets::Classes;
 use protocol::{Agent, Audience, Dialect, Kind, LineNumber, Pattern, Place, Position, Side};
 
-// What the rules that apply come to, and the unreadable lines of the whole file.
+// What the rules that apply come to, and the unreadable lines of the whole file: 0 where it isn't read whole, as `told` defines it.
 #[derive(Clone, Copy)]
 pub struct Gathered {
     pub considered: Considered,
@@ -35,13 +35,15 @@ fn is_unread_agent(agent: Agent) -> bool
     matches!(agent, Agent::Unreadable(_, _))
 }
 
+// A pattern is another type than an agent; the side is here for the contract alone.
 fn is_unread_rule(side: Side, pattern: Pattern) -> bool
     ensures { result ≡ unreadable_kind (Kind.Rule side pattern) }
 {
     matches!(pattern, Pattern::Unreadable(_, _))
 }
 
-// What the lines of a file are read for: the rules of those whose groups apply, for a path.
+// What the lines of a file are read for: the rules of those whose groups apply, for a path. It isn't decide's question: whose groups apply is chosen
+// already, and the path is normalised.
 #[derive(Clone, Copy)]
 struct Question<'a> {
     classes: &'a Classes,

@@ -4,4 +4,4 @@
 
 pub mod audience; // audience.rt: whose groups apply
 pub mod gather; // gather.rt: what the agent and rule lines of a file come to
-pub mod line; // line.rt: the first and the next line, and the value of a line, where they stand in the file
+pub mod line; // line.rt: the first and the next line, the value of a line and its rule, where they stand in the file

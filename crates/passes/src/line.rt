@@ -32,7 +32,7 @@ pub fn next_line(at: Position, place: Place) -> Position
     }
 }
 
-// Where the value ends, which is inside of the line or at its end.
+// Where the value ends, which is inside of the line or at its end. What `kind` is of is asked for: who calls has just read it there.
 pub fn value_end(file: &[u8], at: Place, kind: Kind) -> Place
     requires { (at.offset ≤ length file.now) × (kind ≡ entry_kind (kind_of (text_at file.now at))) }
     ensures { result ≡ value_end at kind }

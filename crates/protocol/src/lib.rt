@@ -1,4 +1,4 @@
-// The types of document 01's answers, and the names of its fields. What each answer is, for every input, is defined in specs/.
+// The types that document 01's answers are told in, and the names of its fields. What each answer is, for every input, is defined in specs/.
 
 #![tactic(auto)]
 
@@ -21,7 +21,7 @@ pub enum Sort {
     Delimiter,
 }
 
-// The number of a line, counted from 1; 0 stands for no line.
+// The number of a line, counted from 1; 0 stands for no line, as document 01 and robots_decide_line have it.
 #[derive(Clone, Copy, PartialEq, Eq)]
 pub struct LineNumber {
     pub number: usize,
@@ -33,7 +33,8 @@ pub struct Place {
     pub offset: usize,
 }
 
-// Where a line stands in its file.
+// Where a line stands in its file. That its number is at most its place plus one is asked for by who counts on: `next_line` makes a position of any
+// two.
 #[derive(Clone, Copy)]
 pub struct Position {
     pub number: LineNumber,
@@ -47,7 +48,7 @@ pub enum Side {
     Disallow,
 }
 
-// A rule: its line, its side, and the place and length of its pattern in the file.
+// A rule: its line, its side, and the place and length of its pattern in the file: two fields, as document 01 names them.
 #[derive(Clone, Copy)]
 pub struct Rule {
     pub line: LineNumber,
@@ -71,7 +72,7 @@ pub enum Audience {
     Nobody,
 }
 
-// The value of an agent line, with its place and length: 0 and 0 where it is empty.
+// The value of an agent line, with its place and length: 0 and 0 where it is empty, as `agent_at` defines it.
 #[derive(Clone, Copy, PartialEq, Eq)]
 pub enum Agent {
     Readable(Place, usize),
@@ -98,14 +99,15 @@ pub enum Kind {
 }
 
 // One try of a run at one place of a path: whether no pair of octets differed, and the pairs compared so far, which are meant in both cases. It is
-// the record of the definition `tried`, as that below is `walk`'s.
+// the record of the definition `tried`.
 #[derive(Clone, Copy)]
 pub struct Tried {
     pub stood: bool,
     pub count: usize,
 }
 
-// A walk after some of its runs: whether all of them stood, where the last one ends in the path, and the pairs compared so far.
+// A walk after some of its runs: whether all of them stood, where the last one ends in the path (0 where one failed), and the pairs compared so far.
+// It is the record of the definition `walk`.
 #[derive(Clone, Copy)]
 pub struct Walked {
     pub stood: bool,
@@ -113,7 +115,7 @@ pub struct Walked {
     pub count: usize,
 }
 
-// A decision that isn't refused: its side, and the deciding rule's line, place and length.
+// A decision that isn't refused: its side, and the deciding rule's line, place and length: 0 where no rule decides, as the C functions answer.
 #[derive(Clone, Copy)]
 pub struct Verdict {
     pub side: Side,
@@ -143,7 +145,7 @@ pub enum Refusal {
 }
 
 impl Refusal {
-    // Its number in the table of refusals.
+    // Its number in the table of refusals. A method and no `From`: who reads a call of it sees which number it is.
     pub fn number(self) -> usize
         ensures { result ≡ refusal_number self }
     {
@@ -178,5 +180,6 @@ impl TryFrom<usize> for Dialect {
     }
 }
 
-// The names of the fields that the protocol knows: one to a row, in lower case, zeros behind it.
+// The names of the fields that the protocol knows: one to a row, in lower case, zeros behind it. Rows of one width, since `near.rt` of fields reads
+// the first eight octets of each as one word.
 pub const FIELDS: [[u8; 10]; 3] = [*b"user-agent", *b"allow\0\0\0\0\0", *b"disallow\0\0"];

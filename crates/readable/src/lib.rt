@@ -1,21 +1,23 @@
-// Whether the value of an agent line is readable, and whom it names; whether the pattern of a rule line is readable; and whether a crawler's name is
-// refused.
+// Whether the value of an agent line is readable, and whom it names; whether the pattern of a rule line is readable; and whether a crawler's name, a
+// file's length or a dialect's number is refused.
 
 #![tactic(auto)]
 
-ghost use Rattle.std.specs.Prelude.{◌≡◌, ◌&&◌, not, [], length, drop};
+ghost use Rattle.std.specs.Prelude.{◌≡◌, ◌&&◌, not, [], ◌∷◌, length, drop, IfOk};
 ghost use Rattle.std.specs.List.{list_all};
 ghost use Rattle.lists.specs.Lists.{empty, up_to, same};
 ghost use Rattle.protocol.specs.Octets.{token};
 ghost use Rattle.protocol.specs.Readable.{everyone, name_front, readable_agent, names, well_formed, pattern_start, readable_pattern};
 ghost use Rattle.protocol.specs.Classes.{class_forms, due_up_to};
-ghost use Rattle.protocol.specs.Refusals.{bad_name};
+ghost use Rattle.protocol.specs.Refusals.{unknown_dialect, too_long, bad_name, refusal, dialect_of};
+ghost use Rattle.protocol.specs.Outcomes.{number_of};
 ghost use Rattle.readable.specs.Due.{due_ranges, due_past, unusual};
 
 use octets::Classes;
-use protocol::{Place, Sort};
+use protocol::{Dialect, Place, Refusal, Sort};
 
-// The octets that a character still lacks: `more` of them, the next from `low` to `high`, those behind it UTF8-tails.
+// The octets that a character still lacks: `more` of them, the next from `low` to `high`, those behind it UTF8-tails. One form for none and never too:
+// `due_ranges` reads the numbers as a list of ranges, and an enum would only give `past` two arms more.
 #[derive(Clone, Copy)]
 struct Due {
     low: u8,
@@ -174,4 +176,26 @@ pub fn is_bad_name(classes: &Classes, name: &[u8]) -> bool
     ensures { result ≡ (bad_name name.now).given }
 {
     name.is_empty() || 64 < name.len() || !all_token(classes, name)
+}
+
+// Why a question about a file and a crawler is refused, whatever else is asked: the dialect's number, then the file's length, then the name. Or the
+// dialect, where none of them is.
+#[tactic(auto, unfolding(protocol::specs::Refusals::refusal, protocol::specs::Refusals::dialect_of))]
+pub fn check_asker(
+    classes: &Classes,
+    dialect: usize,
+    file: &[u8],
+    name: &[u8],
+) -> Result<Dialect, Refusal>
+    ensures refusal { number_of result ≡ refusal (unknown_dialect dialect ∷ too_long file.now ∷ bad_name name.now ∷ []) }
+    ensures dialect { IfOk result (λ d. d ≡ dialect_of dialect) }
+{
+    let chosen = Dialect::try_from(dialect)?;
+    if 512000 < file.len() {
+        return Err(Refusal::TooLong);
+    }
+    if is_bad_name(classes, name) {
+        return Err(Refusal::BadName);
+    }
+    Ok(chosen)
 }

@@ -224,6 +224,7 @@ pub extern "C" fn robots_normalise_refusal(path: &[u8], room: usize) -> usize
     number_of(paths::check_room(path, room))
 }
 
+// Why a line is refused: 0 where it isn't.
 #[tactic(auto, using(protocol::proofs::KindAnswer::line_by_table))]
 #[unsafe(no_mangle)]
 pub extern "C" fn robots_line_refusal(line: &[u8]) -> usize
@@ -234,6 +235,7 @@ pub extern "C" fn robots_line_refusal(line: &[u8]) -> usize
     number_of(kinds::answers::check_line(&classes, line))
 }
 
+// The number of its kind: 0 where it is refused.
 #[unsafe(no_mangle)]
 pub extern "C" fn robots_line_kind(line: &[u8]) -> usize
     ensures { result ≡ kind_number_of (line_answer line.now) }
@@ -243,6 +245,7 @@ pub extern "C" fn robots_line_kind(line: &[u8]) -> usize
     numbers::kind_number_of(answer)
 }
 
+// The place in it of an agent's value or a rule's pattern, counted from 0: 0 where there is none.
 #[unsafe(no_mangle)]
 pub extern "C" fn robots_line_place(line: &[u8]) -> usize
     ensures { result ≡ (value_place (line_answer line.now)).offset }
@@ -252,6 +255,7 @@ pub extern "C" fn robots_line_place(line: &[u8]) -> usize
     numbers::value_place(answer).offset
 }
 
+// How many octets that value or pattern has.
 #[unsafe(no_mangle)]
 pub extern "C" fn robots_line_length(line: &[u8]) -> usize
     ensures { result ≡ value_length (line_answer line.now) }

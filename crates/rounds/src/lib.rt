@@ -15,19 +15,8 @@ ghost use Rattle.rounds.specs.Rounds.{leader_in, led_for, Placed, Round};
 use leading::Leader;
 use listing::{Answers, Paths};
 use octets::Classes;
-use protocol::{Dialect, LineNumber, Place, Rule, Side};
-use tables::Kept;
-
-// Stands at each place of a table where no rule is kept yet.
-const NO_RULE: Kept = Kept {
-    rule: Rule {
-        line: LineNumber { number: 0 },
-        side: Side::Allow,
-        place: Place { offset: 0 },
-        length: 0,
-    },
-    front: 0,
-};
+use protocol::{Dialect, LineNumber};
+use tables::{Kept, NO_RULE};
 
 // Memory for a normalised path and its walks. It is fixed, for there is no heap: no path that is answered is longer when it is normalised.
 #[derive(Drop)]
@@ -82,15 +71,7 @@ impl Table<'_> {
         if paths::is_robots_file(path) {
             return leader;
         }
-        leading::lead_all(
-            self.dialect,
-            self.file,
-            self.rules,
-            self.rules.len(),
-            path,
-            scratch,
-            leader,
-        )
+        leading::lead_all(self.dialect, self.file, self.rules, path, scratch, leader)
     }
 
     // The same for a raw path that isn't refused.

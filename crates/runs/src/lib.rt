@@ -93,7 +93,7 @@ pub fn first_run(run: &[u8], path: &[u8], last: bool) -> Walked
     place_run(run.len(), 0, t)
 }
 
-// A later run, where all runs before it stood.
+// A later run, where all runs before it stood; `last` says whether it is the end-marked last one, as in the definition `next`.
 #[tactic(auto, using(protocol::proofs::Steps::next_final, protocol::proofs::Steps::next_seek))]
 pub fn later_run(run: &[u8], path: &[u8], last: bool, w: Walked) -> Walked
     requires { (w.stood ≡ true) × (w.past ≤ length path.now) × ((next last run.now path.now w).count < 2 ^ 64) }

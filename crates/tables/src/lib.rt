@@ -14,7 +14,7 @@ pub struct Kept {
     pub front: usize,
 }
 
-// A place of a table that holds no rule yet.
+// A place of a table that holds no rule yet. No Option: how many places hold one is known beside it, and no other is read.
 pub const NO_RULE: Kept = Kept {
     rule: Rule {
         line: LineNumber { number: 0 },

@@ -40,7 +40,7 @@ fn first_marked<F: Fn(u64) -> u64>(s: &[u8], marks: F) -> usize
     }
 }
 
-// The octets in front of the first of that sort, all of them where there is none.
+// The octets in front of the first from low to high, or of the first other one, all of them where there is none.
 pub fn clear_front(s: &[u8], low: u8, high: u8, inside: bool) -> usize
     requires { (8 ≤ length s.now) × (low ≤ 128) × (high ≤ 127) }
     ensures { result ≡ length (up_to (among low high inside) s.now) }
@@ -56,7 +56,7 @@ fn is_among(x: u8, low: u8, high: u8, inside: bool) -> bool
     (low..=high).contains(&x) == inside
 }
 
-// The same of any text and any octets. Octets over 127 are sought one by one.
+// As `clear_front`, of any text and any octets. Octets over 127 are sought one by one.
 fn front(s: &[u8], low: u8, high: u8, inside: bool) -> usize
     ensures { result ≡ length (up_to (among low high inside) s.now) }
 {
@@ -69,7 +69,7 @@ fn front(s: &[u8], low: u8, high: u8, inside: bool) -> usize
     clear_front(s, low, high, inside)
 }
 
-// The place of the first octet of that sort from `from` on, or the text's end.
+// The place of the first octet from low to high, or of the first other one, from `from` on, or the text's end.
 #[tactic(auto, using(crate::proofs::Seeks::first_past, lists::proofs::Scans::up_to_fits))]
 pub fn seek(s: &[u8], from: Place, low: u8, high: u8, inside: bool) -> Place
     ensures { result ≡ first_from (among low high inside) s.now from }

@@ -1,5 +1,5 @@
 // The walk of a raw pattern: it is cut at its stars, and each run that is reached is normalised into lent scratch, which needs no more room
-// than the path. Path and scratch stay two parameters: a struct of both would be lent anew at each call, and hide that only the scratch is written.
+// than the path. Path and scratch stay two parameters: a struct of both would be borrowed again at each call, and hide that only the scratch is written.
 
 #![tactic(auto)]
 
@@ -13,7 +13,7 @@ ghost use Rattle.walk.specs.Weights.{CountFits, weighed_walk, weighed};
 
 use protocol::{Dialect, Walked};
 
-// A pattern's weight where it matches, 0 where it doesn't, and the pairs compared.
+// A pattern's weight where it matches, 0 where it doesn't, and the pairs compared. What matches weighs at least 1, so 0 needs no Option.
 #[derive(Clone, Copy)]
 pub struct Weighed {
     pub weight: usize,
@@ -71,7 +71,7 @@ fn walk_text(text: &[u8], anchored: bool, path: &[u8], scratch: &mut [u8]) -> Wa
         is_last(anchored, end, text.len()),
         scratch,
     );
-    // No `for` over the parts of `split`: a run has to know whether it is the last one, and the walk ends at the first that doesn't stand.
+    // No `for` over the parts of `split`: a run has to know whether it is the last one.
     while end < text.len() {
         if !w.stood {
             return w;

@@ -7,6 +7,6 @@ use Rattle.leading.proofs.lead_all.Given as goal
 abbrev pub invariant-loop-kept : goal.invariant-loop-kept
 invariant-loop-kept l = record {
   scratch_same : length l.scratch ≡ length l.initial.scratch;
-  leads : led_all l.dialect l.file l.path l.leader (rules_of (drop l.kept-index l.kept-items))
-      ≡ led_all l.dialect l.file l.path l.initial.leader (rules_of l.kept-items);
+  leads : led_all l.dialect l.file l.path l.leader (rules_of (drop l.kept-index l.rules))
+      ≡ led_all l.dialect l.file l.path l.initial.leader (rules_of l.rules);
 }

@@ -1,19 +1,22 @@
 -- Where nothing but spaces and tabs stand behind the ordinary octets, these are the value. Assumes nothing.
-use Rattle.std.proofs.Common.{ℕ, List, ◌≡◌, ◌+◌, ◌∙◌, ap, sym, true, false, length, drop, length-drop, arith}
-use lib.Seq.{drop-drop}
-use Rattle.lists.specs.Lists.{up_to, from}
-use Rattle.lists.proofs.Scans.{rest_of, drop_up_to, up_to_fits}
+use Rattle.std.proofs.Common.{ℕ, Bool, List, ◌≡◌, ◌+◌, ◌-◌, ◌≤◌, ◌∙◌, ap, sym, true, false, length, take, drop, length-drop, arith}
+use lib.Seq.{drop-drop, length-take-le}
+use Rattle.lists.specs.Lists.{all, up_to, from}
+use Rattle.lists.proofs.Scans.{rest_of, take_up_to, drop_up_to, up_to_fits}
 use Rattle.text.proofs.Trims.{trim_fits}
 use Rattle.protocol.specs.Text.{solid, lead, trim_end}
 use Rattle.protocol.specs.Classes.{stop}
-use Rattle.readable.specs.Due.{unusual}
+use Rattle.readable.specs.Due.{ordinary, unusual}
 use Rattle.fields.specs.Fields.{ended}
-use Rattle.kinds.specs.Entries.{value_told}
-use Rattle.kinds.proofs.Fronts.{value_fits}
+use Rattle.kinds.specs.Entries.{value_front}
+use Rattle.kinds.proofs.Fronts.{value_read, value_fits}
 use Rattle.kinds.proofs.Values.{ended_solid, ordinary_told, value_ordinary, value_behind}
 use Rattle.kinds.proofs.entry.value_in.Goals as goal
 
 module _ (s : List ℕ) (n : ℕ) (k : n ≡ length (up_to unusual s)) where
+  abbrev rest : List ℕ
+  rest = take (length s - n) (drop n s)
+
   rest-known : drop n s ≡ from unusual s
   rest-known = ap (λ (i : ℕ). drop i s) k ∙ drop_up_to unusual s
 
@@ -23,50 +26,86 @@ module _ (s : List ℕ) (n : ℕ) (k : n ≡ length (up_to unusual s)) where
   behind m e =
       ap (λ (i : ℕ). drop (n + i) s) e ∙ sym (drop-drop (lead (drop n s)) n s) ∙ drop_up_to solid (drop n s) ∙ ap (from solid) rest-known
 
-  whole : ended (from solid (from unusual s)) ≡ true → record { octets = n; ordinary = true } ≡ value_told s
-  whole e = rw (ordinary_told s, e) (ap (λ (i : ℕ). record { octets = i; ordinary = true }) (k ∙ ap length (value_ordinary s e)))
+  ended-here : ended (drop n s) ≡ true → ended (from solid (from unusual s)) ≡ true
+  ended-here e =
+      let here : ended (from unusual s) ≡ true = ap ended (sym rest-known) ∙ e in
+      ap ended (ended_solid (from unusual s) here) ∙ here
 
-  part : (m : ℕ) → m ≡ length (trim_end (up_to stop (drop n s))) → n + m ≡ length (trim_end (up_to stop s))
-  part m e = omega (arith, e, ap (λ (l : List ℕ). length (trim_end (up_to stop l))) rest-known, k, value_behind s)
+  ended-behind : (m : ℕ) (b : Bool) → m ≡ lead rest → ended (drop (n + m) s) ≡ b → ended (from solid (from unusual s)) ≡ b
+  ended-behind m b e h = ap ended (sym (behind m (e ∙ ap lead (rest_of n s)))) ∙ h
+
+  -- whether all octets of the value are ordinary
+  usual-known : (b : Bool) (v : List ℕ) → v ≡ value_front s → ended (from solid (from unusual s)) ≡ b → b ≡ all ordinary v
+  usual-known b v e h = sym h ∙ sym (ordinary_told s) ∙ ap (all ordinary) (sym e)
+
+  whole : ended (from solid (from unusual s)) ≡ true → take n s ≡ value_front s
+  whole e = ap (λ (i : ℕ). take i s) k ∙ take_up_to unusual s ∙ value_ordinary s e
+
+  whole-usual : ended (from solid (from unusual s)) ≡ true → true ≡ all ordinary (take n s)
+  whole-usual e = usual-known true (take n s) (whole e) e
+
+  module _ (m : ℕ) (told : m ≡ length (trim_end (up_to stop rest))) where
+    part-size : n + m ≡ length (value_front s)
+    part-size = omega (arith, told, ap (λ (l : List ℕ). length (trim_end (up_to stop l))) (rest_of n s ∙ rest-known), k, value_behind s)
+
+    part-in : n + m ≤ length s
+    part-in = omega (arith, part-size, value_fits s)
+
+    part : take (n + m) s ≡ value_front s
+    part = ap (λ (i : ℕ). take i s) part-size ∙ value_read s
+
+pub slice_bounds-result-end : goal.slice_bounds-result-end
+slice_bounds-result-end c = sym (length-take-le _ _ (omega (arith, c.ordinary_words-n.ensures, up_to_fits unusual c.args.s.now)))
+
+pub invariant_of-result : goal.invariant_of-result
+invariant_of-result c =
+    let s = c.args.s.now in
+    let n = c.ordinary_words-n.result in
+    let k = c.ordinary_words-n.ensures in
+    record { told = whole-usual s n k (ended-here s n k (sym c.ends_at.ensures ∙ c.if-ends_at.true)) }
 
 pub returns-then-ends_at : goal.returns-then-ends_at
 returns-then-ends_at c =
     let s = c.args.s.now in
-    let n = c.ordinary_words-octets.result in
-    let k = c.ordinary_words-octets.ensures in
-    let here : ended (from unusual s) ≡ true = ap ended (sym (rest-known s n k)) ∙ sym c.ends_at.ensures ∙ c.if-ends_at.true in
-    whole s n k (ap ended (ended_solid (from unusual s) here) ∙ here)
+    let n = c.ordinary_words-n.result in
+    let k = c.ordinary_words-n.ensures in
+    whole s n k (ended-here s n k (sym c.ends_at.ensures ∙ c.if-ends_at.true))
 
 pub overflow_add-end : goal.overflow_add-end
 overflow_add-end c =
     let s = c.args.s.now in
-    let n = c.ordinary_words-octets.result in
-    omega (arith, c.lead.ensures, ap lead (rest_of n s), trim_fits (drop n s), length-drop n s, c.ordinary_words-octets.ensures, up_to_fits unusual s)
+    let n = c.ordinary_words-n.result in
+    omega (arith, c.lead.ensures, ap lead (rest_of n s), trim_fits (drop n s), length-drop n s, c.ordinary_words-n.ensures, up_to_fits unusual s)
+
+pub invariant_of-result-then-ends_at-2 : goal.invariant_of-result-then-ends_at-2
+invariant_of-result-then-ends_at-2 c =
+    let s = c.args.s.now in
+    let n = c.ordinary_words-n.result in
+    let k = c.ordinary_words-n.ensures in
+    record { told = whole-usual s n k (ended-behind s n k c.lead.result true c.lead.ensures (sym c.ends_at-2.ensures ∙ c.if-ends_at-2.true)) }
 
 pub returns-then-ends_at-2 : goal.returns-then-ends_at-2
 returns-then-ends_at-2 c =
     let s = c.args.s.now in
-    let n = c.ordinary_words-octets.result in
-    let k = c.ordinary_words-octets.ensures in
-    whole s n k (ap ended (sym (behind s n k c.lead.result (c.lead.ensures ∙ ap lead (rest_of n s)))) ∙ sym c.ends_at-2.ensures ∙ c.if-ends_at-2.true)
+    let n = c.ordinary_words-n.result in
+    let k = c.ordinary_words-n.ensures in
+    whole s n k (ended-behind s n k c.lead.result true c.lead.ensures (sym c.ends_at-2.ensures ∙ c.if-ends_at-2.true))
 
 pub overflow_add-all : goal.overflow_add-all
 overflow_add-all c =
+    omega (arith, part-in c.args.s.now c.ordinary_words-n.result c.ordinary_words-n.ensures c.value_length.result c.value_length.ensures)
+
+pub slice_bounds-result-end-2 : goal.slice_bounds-result-end-2
+slice_bounds-result-end-2 c =
+    sym (length-take-le _ _ (part-in c.args.s.now c.ordinary_words-n.result c.ordinary_words-n.ensures c.value_length.result c.value_length.ensures))
+
+pub invariant_of-result-2 : goal.invariant_of-result-2
+invariant_of-result-2 c =
     let s = c.args.s.now in
-    let n = c.ordinary_words-octets.result in
-    omega (
-      arith,
-      part s n c.ordinary_words-octets.ensures c.value_length.result (c.value_length.ensures ∙ ap (λ (l : List ℕ). length (trim_end (up_to stop l))) (rest_of n s)),
-      value_fits s,
-    )
+    let n = c.ordinary_words-n.result in
+    let k = c.ordinary_words-n.ensures in
+    let other = ended-behind s n k c.lead.result false c.lead.ensures (sym c.ends_at-2.ensures ∙ c.if-ends_at-2.false) in
+    record { told = usual-known s n k false _ (part s n k c.value_length.result c.value_length.ensures) other }
 
 pub returns : goal.returns
-returns c =
-    let s = c.args.s.now in
-    let n = c.ordinary_words-octets.result in
-    let k = c.ordinary_words-octets.ensures in
-    let other : ended (from solid (from unusual s)) ≡ false =
-    ap ended (sym (behind s n k c.lead.result (c.lead.ensures ∙ ap lead (rest_of n s)))) ∙ sym c.ends_at-2.ensures ∙ c.if-ends_at-2.false in
-    rw (ordinary_told s, other)
-    (ap (λ (i : ℕ). record { octets = i; ordinary = false })
-    (part s n k c.value_length.result (c.value_length.ensures ∙ ap (λ (l : List ℕ). length (trim_end (up_to stop l))) (rest_of n s))))
+returns c = part c.args.s.now c.ordinary_words-n.result c.ordinary_words-n.ensures c.value_length.result c.value_length.ensures
