@@ -2,7 +2,7 @@
 
 #![tactic(auto)]
 
-ghost use Rattle.std.specs.Prelude.{◌≡◌, ◌≤◌, length};
+ghost use Rattle.std.specs.Prelude.{◌≡◌, ◌≤◌, length, IfOk};
 ghost use Rattle.protocol.specs.Normal.{normal_path};
 ghost use Rattle.protocol.specs.Pattern.{shape_of};
 ghost use Rattle.protocol.specs.Walk.{walk};
@@ -79,7 +79,8 @@ fn walk_path(pattern: &[u8], path: &[u8]) -> Walked
 }
 
 pub fn match_pattern(pattern: &[u8], path: &[u8]) -> Result<Walked, Refusal>
-    ensures { matched_of result ≡ match_of pattern.now path.now }
+    ensures value { matched_of result ≡ match_of pattern.now path.now }
+    ensures walk { IfOk result (λ w. w ≡ walk (shape_of pattern.now) (normal_path path.now)) }
 {
     check_match(pattern, path)?;
     Ok(walk_path(pattern, path))
