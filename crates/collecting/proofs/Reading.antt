@@ -179,7 +179,7 @@ module _ (file : List ℕ) (p e : Place) (h : p.offset ≤ length file) (known :
   text_unended = no_ending (drop p.offset file)
 
 -- a line's answer is its kind
-kind_answered : (l : List ℕ) → length l ≤ 512_000 → any line_end l ≡ false → line_answer l ≡ LineAnswer.Kind (kind_of l)
+pub kind_answered : (l : List ℕ) → length l ≤ 512_000 → any line_end l ≡ false → line_answer l ≡ LineAnswer.Kind (kind_of l)
 kind_answered l h e = line_answered l (one_line l h e)
 
 -- so no line of a file is refused

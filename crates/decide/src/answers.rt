@@ -32,6 +32,14 @@ pub fn check_question(
     Ok(chosen)
 }
 
+// The dialect of a number: the RFC's where it is none's. Who decides refuses such a number, and doesn't ask for it.
+#[tactic(auto, unfolding(protocol::specs::Refusals::dialect_of))]
+pub fn dialect_of(number: usize) -> Dialect
+    ensures { result ≡ dialect_of number }
+{
+    Dialect::try_from(number).unwrap_or(Dialect::Rfc9309)
+}
+
 // What is asked of a file, for any path: for whom, by which paper's rules, and whether the whole file is to be read for the unread count.
 #[derive(Clone, Copy)]
 struct Question<'a> {

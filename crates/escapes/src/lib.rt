@@ -40,8 +40,11 @@ impl Replacement {
                 out[at] = x;
                 at + 1
             }
+            // Three stores: `copy_from_slice` may go through memory of its own, and then an escape takes twice the time.
             Replacement::Escape(escape) => {
-                out[at..at + 3].copy_from_slice(&escape);
+                out[at] = escape[0];
+                out[at + 1] = escape[1];
+                out[at + 2] = escape[2];
                 at + 3
             }
         }

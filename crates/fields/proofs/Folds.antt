@@ -143,7 +143,7 @@ module _ (s : List ℕ) (w : ℕ) (front : octets_of 8 w ≡ folded (take 8 s)) 
       ∙ ap (λ (l : List ℕ). same l (name_front f) && plain_from (name_front f) s 0) same-front
 
   -- a name of letters that goes no further
-  short_begins : (f : Field) → 8 ≤ length s → name_length f ≤ 8 → plain_from (name_front f) s 0 ≡ true → word_begins f (octets_of 8 w) ≡ begins_name f s
+  pub short_begins : (f : Field) → 8 ≤ length s → name_length f ≤ 8 → plain_from (name_front f) s 0 ≡ true → word_begins f (octets_of 8 w) ≡ begins_name f s
   short_begins f h short letters =
       sym (ap (λ (n : List ℕ). same_ignoring_case (take (length n) s) n) (sym (take_all 8 (octets (name_of f)) short))
       ∙ front_begins f h

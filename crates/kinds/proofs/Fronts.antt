@@ -33,9 +33,15 @@ pub value_fits : (l : List ℕ) → length (trim_end (up_to stop l)) ≤ length 
 value_fits l = omega (arith, end_fits (up_to stop l), up_to_fits stop l)
 
 -- the value at the place p
-pub value_of : (r : List ℕ) (p : Place) → trim_end (up_to stop (take (length r - p.offset) (drop p.offset r))) ≡ value_at p r
-unfolding value_at
-value_of r p = rw (rest_of p.offset r)
+module _ (r : List ℕ) (p : Place) where
+  pub value_of : trim_end (up_to stop (take (length r - p.offset) (drop p.offset r))) ≡ value_at p r
+  unfolding value_at
+  value_of = rw (rest_of p.offset r)
+
+  pub value_at_lem : (n : ℕ) → n ≡ length (trim_end (up_to stop (take (length r - p.offset) (drop p.offset r)))) → take n (take (length r - p.offset) (drop p.offset r)) ≡ value_at p r
+  value_at_lem n e =
+      let rest : List ℕ = take (length r - p.offset) (drop p.offset r) in
+      ap (λ (i : ℕ). take i rest) e ∙ value_read rest ∙ value_of
 
 -- nothing is examined from n on
 module _ (l : List ℕ) (n : ℕ) where

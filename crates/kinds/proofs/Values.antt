@@ -1,5 +1,5 @@
 -- The value that a text begins with, by its ordinary octets and what stands behind them. Assumes nothing.
-use Prim.Native.Nat.{ℕ, ◌+◌}
+use Prim.Native.Nat.{ℕ, suc, ◌+◌}
 use mathlib.Core.Path.{◌≡◌, refl, sym, ap, ◌∙◌}
 use mathlib.Core.Bool.{true, false}
 use mathlib.Core.List.{List, [], ◌∷◌}
@@ -11,7 +11,7 @@ use Rattle.lists.specs.Lists.{empty, all, up_to, from}
 use Rattle.lists.proofs.Bools.{split, and_left, and_right}
 use Rattle.lists.proofs.Tests.{empty_known}
 use Rattle.protocol.specs.Octets.{blank}
-use Rattle.protocol.specs.Text.{solid, unless_at_end, trim_end}
+use Rattle.protocol.specs.Text.{solid, unless_at_end, trim_end, lead}
 use Rattle.protocol.specs.Readable.{well_formed, pattern_start, readable_pattern}
 use Rattle.protocol.specs.Classes.{stop}
 use Rattle.readable.specs.Due.{ordinary, unusual}
@@ -83,6 +83,24 @@ value_behind (x ∷ l) =
     let low = above x e in
     rw (past_stop x (omega (arith, low)), e, solid_stays x (trim_end (up_to stop l)) (past_blank x (omega (arith, low)))) (omega (arith, value_behind l)))
     (λ e. rw e (omega arith))
+
+-- So it goes on behind spaces and tabs too, where something that is no stop stands behind them.
+pub value_spaces : (l : List ℕ) → ended (from solid l) ≡ false → length (trim_end (up_to stop l)) ≡ lead l + length (trim_end (up_to stop (from solid l)))
+unfolding lead up_to from trim_end unless_at_end
+value_spaces [] h = absurd (cc)
+value_spaces (x ∷ l) h =
+    split (blank x)
+    (λ b.
+    let inner : ended (from solid l) ≡ false = rw b at h in
+    rw (b, unstopped b) (longer (trim_end (up_to stop l)) (value_empty l ∙ inner) (omega (arith, value_spaces l inner))))
+    (λ b. rw b (omega arith))
+  where
+    unstopped : blank x ≡ true → stop x ≡ false
+    unstopped b = split (stop x) (λ s. cc (stop_solid x s, b)) (λ s. s)
+
+    longer : (t : List ℕ) → empty t ≡ false → {n : ℕ} → suc (length t) ≡ n → length (unless_at_end x t) ≡ n
+    longer [] e p = absurd (cc)
+    longer (y ∷ t) e p = p
 
 -- ordinary octets are all in front of the first unusual one
 all_front : (v : List ℕ) → all ordinary v ≡ true → up_to unusual v ≡ v

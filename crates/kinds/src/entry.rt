@@ -5,14 +5,14 @@ ghost use Rattle.std.specs.Prelude.{◌≡◌, Some, length};
 ghost use Rattle.lists.specs.Lists.{all, up_to};
 ghost use Rattle.protocol.specs.Lines.{line_text, place_after};
 ghost use Rattle.protocol.specs.Readable.{readable_pattern};
-ghost use Rattle.protocol.specs.Kinds.{agent_at, pattern_at, kind_of};
+ghost use Rattle.protocol.specs.Kinds.{kind_of};
 ghost use Rattle.readable.specs.Due.{ordinary, unusual};
 ghost use Rattle.fields.specs.Fields.{head_of, value_at, kind_as};
 ghost use Rattle.kinds.specs.Entries.{entry_told, value_front};
 
 use fields::{Field, Head};
 use octets::Classes;
-use protocol::{Agent, Kind, Pattern, Place};
+use protocol::{Kind, Place};
 
 // A line, for a pass: its kind, as `entry_kind` tells it, to which blank and noise lines are other lines too; and where what is examined of it ends,
 // from where the next line is looked for.
@@ -48,7 +48,7 @@ fn ordinary_words(s: &[u8]) -> usize
 }
 
 // The value that a text begins with. Where spaces and tabs and then a stop stand behind the ordinary octets, these are the value; otherwise it goes
-// on behind them, and they are not looked at again.
+// on behind the spaces and tabs, and nothing in front of its rest is looked at again.
 #[inline(always)]
 fn value_in<'a>(classes: &Classes, s: &'a [u8]) -> Value<'a>
     ensures { result.octets.now ≡ value_front s.now }
@@ -67,26 +67,10 @@ fn value_in<'a>(classes: &Classes, s: &'a [u8]) -> Value<'a>
             usual: true,
         };
     }
-    let all = n + crate::line::value_length(classes, &s[n..]);
+    let all = end + crate::line::value_length(classes, &s[end..]);
     Value {
         octets: &s[..all],
         usual: false,
-    }
-}
-
-// The agent of a value, which stands at that place. It and `pattern_at` stay two: an agent and a pattern are types of the protocol, and an empty
-// agent isn't told as an empty pattern is.
-#[tactic(auto, using(crate::proofs::Kinding::agent_none, crate::proofs::Kinding::agent_readable, crate::proofs::Kinding::agent_unreadable))]
-fn agent_at(classes: &Classes, place: Place, value: &[u8]) -> Agent
-    ensures { result ≡ agent_at place value.now }
-{
-    if value.is_empty() {
-        return Agent::Unreadable(Place { offset: 0 }, 0);
-    }
-    if readable::readable_agent(classes, value) {
-        Agent::Readable(place, value.len())
-    } else {
-        Agent::Unreadable(place, value.len())
     }
 }
 
@@ -102,30 +86,20 @@ fn is_pattern(value: Value) -> bool
     readable::readable_pattern(value.octets)
 }
 
-// The pattern of a value, likewise.
-#[tactic(auto, using(crate::proofs::Kinding::pattern_none, crate::proofs::Kinding::pattern_readable, crate::proofs::Kinding::pattern_unreadable))]
-#[inline(always)]
-fn pattern_at(place: Place, value: Value) -> Pattern
-    ensures { result ≡ pattern_at place value.entry.octets.now }
-{
-    if value.octets.is_empty() {
-        return Pattern::Empty;
-    }
-    if is_pattern(value) {
-        Pattern::Readable(place, value.octets.len())
-    } else {
-        Pattern::Unreadable(place, value.octets.len())
-    }
-}
-
 // The kind of a line with that head, whose value is given.
 #[inline(always)]
 fn kind_with(classes: &Classes, head: Head, value: Value) -> Kind
     ensures { result ≡ kind_as head.field head.value value.entry.octets.now }
 {
     match head.field {
-        Field::Agent => Kind::Agent(agent_at(classes, head.value, value.octets)),
-        Field::Rule(side) => Kind::Rule(side, pattern_at(head.value, value)),
+        Field::Agent => Kind::Agent(crate::line::agent_at(classes, head.value, value.octets)),
+        Field::Rule(side) => {
+            let readable = is_pattern(value);
+            Kind::Rule(
+                side,
+                crate::line::pattern_at(head.value, value.octets, readable),
+            )
+        }
     }
 }
 

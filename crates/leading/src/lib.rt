@@ -21,11 +21,18 @@ pub struct Leader {
 }
 
 impl Leader {
-    // A rule of that weight and side leads from now on: allow before disallow at equal weight.
+    // A rule of that weight and side leads from now on: allow before disallow at equal weight. By steps: as one expression the compiler works out both
+    // tests at each rule.
     fn is_outdone(self, weight: usize, side: usize) -> bool
         ensures { result ≡ outdoes weight side self }
     {
-        self.weight < weight || self.weight == weight && side < self.side
+        if self.weight < weight {
+            return true;
+        }
+        if self.weight == weight {
+            return side < self.side;
+        }
+        false
     }
 
     // No further rule is walked.
@@ -98,15 +105,15 @@ fn lead(
     ensures value { result ≡ led dialect file.now path.now leader kept.now.rule }
     ensures scratch_len_unchanged { length scratch.new ≡ length scratch.old }
 {
-    let rule = kept.rule;
-    let pattern = considering::pattern_of(file, rule);
+    let pattern = considering::pattern_of(file, kept.rule);
     let weight = weigh_from(dialect, kept.front, pattern, path, scratch);
-    let side = usize::from(rule.side);
+    let side = usize::from(kept.rule.side);
     if leader.is_outdone(weight, side) {
+        // The line is read here alone, since few rules lead.
         Leader {
             weight,
             side,
-            line: rule.line,
+            line: kept.rule.line,
         }
     } else {
         leader

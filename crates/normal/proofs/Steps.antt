@@ -1,7 +1,7 @@
 -- Normalising, replacement by replacement: what a turn of each loop needs. Assumes nothing.
 use Prim.Native.Nat.{ℕ, zero, suc, ◌+◌, ◌-◌, ◌≤◌, ◌<◌}
 use mathlib.Core.Path.{◌≡◌, refl, sym, ap, ◌∙◌}
-use mathlib.Core.Bool.{Bool, false, not}
+use mathlib.Core.Bool.{Bool, true, false, not}
 use mathlib.Core.List.{List, [], ◌∷◌, ◌++◌}
 use native.Mathlib.Omega.{arith}
 use lib.ListN.{length, take, drop, get_or, length-append, length-drop, drop_of_length-le}
@@ -13,7 +13,7 @@ use Rattle.lists.proofs.Scans.{rest_of, take_up_to}
 use Rattle.lists.proofs.Fronts.{sets_append, sets_front}
 use Rattle.protocol.specs.Normal.{is_escape, is_encoded, replacement, normal}
 use Rattle.protocol.specs.Answers.{at_front}
-use Rattle.escapes.specs.Escapes.{taken}
+use Rattle.escapes.specs.Escapes.{kept, taken}
 use Rattle.escapes.proofs.Forms.{kept_alone, replacement_kept}
 
 -- what belongs to an escape that is done is passed over
@@ -86,6 +86,11 @@ module _ (stars : Bool) (s : List ℕ) where
 
   pub first_least : 0 < length s → length (replacement stars (get_or s 0 0) (drop 1 s)) ≤ length (normal stars 0 s)
   first_least h = omega (arith, first_length (taken (get_or s 0 0) (drop 1 s)) h refl)
+
+  -- where the octet stays, it is the first replacement, and takes itself
+  pub first_kept : kept stars (get_or s 0 0) ≡ true
+      → (replacement stars (get_or s 0 0) (drop 1 s) ≡ get_or s 0 0 ∷ []) × (1 ≡ taken (get_or s 0 0) (drop 1 s))
+  first_kept h = (replacement_kept stars (get_or s 0 0) (drop 1 s) h, rw (kept_alone stars (get_or s 0 0) (drop 1 s) h))
 
 -- to write it, and what is left behind it, writes the whole
 pub first_written : (stars : Bool) (s : List ℕ) (n : ℕ) (out : List ℕ) (at : ℕ) → 0 < length s → n ≡ taken (get_or s 0 0) (drop 1 s)

@@ -46,7 +46,7 @@ pub fn may_change(path: &[u8]) -> bool
 }
 
 // Writes what is left of a text, normalised, to a place, and tells the place past it. Only here is the table worth its copy.
-#[tactic(auto, using(crate::proofs::Steps::first_some, crate::proofs::Steps::first_inside, crate::proofs::Steps::first_length, crate::proofs::Steps::first_least, crate::proofs::Steps::normal_none, crate::proofs::Steps::first_written))]
+#[tactic(auto, using(crate::proofs::Steps::first_some, crate::proofs::Steps::first_inside, crate::proofs::Steps::first_length, crate::proofs::Steps::first_least, crate::proofs::Steps::normal_none, crate::proofs::Steps::first_written, escapes::proofs::Forms::kept_alone, escapes::proofs::Forms::replacement_kept, escapes::proofs::Forms::changed_is))]
 fn write_rest(stars: bool, s: &[u8], out: &mut [u8], at: usize) -> usize
     requires { at + length (normal stars 0 s.now) ≤ length out.old }
     ensures past { result ≡ at + length (normal stars 0 s.now) }
@@ -57,21 +57,59 @@ fn write_rest(stars: bool, s: &[u8], out: &mut [u8], at: usize) -> usize
     let mut rest = s;
     // No `for`: an escape takes three octets, and what isn't one takes one.
     while !rest.is_empty() {
-        let (replacement, taken) = escapes::replace_first(&classes, stars, rest);
-        end = replacement.write(out, end);
-        rest = &rest[taken..];
+        let x = rest[0];
+        if escapes::is_kept(stars, x) {
+            out[end] = x;
+            end += 1;
+            rest = &rest[1..];
+        } else {
+            let (replacement, taken) = escapes::changed_first(&classes, rest);
+            end = replacement.write(out, end);
+            rest = &rest[taken..];
+        }
     }
     end
 }
 
+// Copies the octets in front of the first that doesn't stay as it is, and tells how many; one by one, for a short text.
+fn write_short(stars: bool, s: &[u8], out: &mut [u8]) -> usize
+    requires { length (up_to (is_encoded stars) s.now) ≤ length out.old }
+    ensures kept { result ≡ length (up_to (is_encoded stars) s.now) }
+    ensures written { out.new ≡ sets out.old 0 (up_to (is_encoded stars) s.now) }
+{
+    for i in 0..s.len() {
+        let x = s[i];
+        if !escapes::is_kept(stars, x) {
+            return i;
+        }
+        out[i] = x;
+    }
+    s.len()
+}
+
+// The same of any text. By an index, and no `copy_from_slice`, which is the C library's `memmove` where so many octets are copied as it turns out.
+fn write_kept(stars: bool, s: &[u8], out: &mut [u8]) -> usize
+    requires { length (up_to (is_encoded stars) s.now) ≤ length out.old }
+    ensures kept { result ≡ length (up_to (is_encoded stars) s.now) }
+    ensures written { out.new ≡ sets out.old 0 (up_to (is_encoded stars) s.now) }
+{
+    if s.len() < 16 {
+        return write_short(stars, s, out);
+    }
+    let n = kept_front(stars, s);
+    for i in 0..n {
+        out[i] = s[i];
+    }
+    n
+}
+
 // Writes the normalised octets to the front, and tells how many.
-#[tactic(auto, using(crate::proofs::Steps::kept_shorter, escapes::proofs::Writes::put_sets))]
+#[tactic(auto, using(lists::proofs::Scans::up_to_fits))]
 pub fn write(stars: bool, s: &[u8], out: &mut [u8]) -> usize
     requires { length (normal stars 0 s.now) ≤ length out.old }
     ensures { (result ≡ length (normal stars 0 s.now)) × (out.new ≡ at_front (normal stars 0 s.now) out.old) }
 {
-    let n = kept_front(stars, s);
-    out[..n].copy_from_slice(&s[..n]);
+    let n = write_kept(stars, s, out);
     if n == s.len() {
         return n;
     }

@@ -2,12 +2,12 @@
 
 #![tactic(auto)]
 
-ghost use Rattle.std.specs.Prelude.{◌≡◌};
+ghost use Rattle.std.specs.Prelude.{ℕ, ◌≡◌};
 ghost use Rattle.protocol.specs.Kinds.{place_of, length_of};
 ghost use Rattle.protocol.specs.Answers.{kind_number, kind_number_of, value_place, value_length};
-ghost use Rattle.protocol.specs.Outcomes.{line_answer_of};
+ghost use Rattle.protocol.specs.Outcomes.{line_answer_by};
 
-use protocol::{Agent, Kind, Pattern, Place, Refusal, Side};
+use protocol::{Agent, Kind, Pattern, Place, Side};
 
 // The number of a kind, from 1 on. No `From`: it is asked for here alone.
 fn kind_number(kind: Kind) -> usize
@@ -28,9 +28,9 @@ fn kind_number(kind: Kind) -> usize
     }
 }
 
-// The number of a line's kind: 0 where the line is refused.
-pub fn kind_number_of(answer: Result<Kind, Refusal>) -> usize
-    ensures { result ≡ kind_number_of (line_answer_of answer) }
+// The number of a line's kind: 0 where the line is refused, whatever tells the refusal.
+pub fn kind_number_of<R: Copy>(answer: Result<Kind, R>) -> usize
+    ensures { (number : R → ℕ) → result ≡ kind_number_of (line_answer_by number answer) }
 {
     answer.map_or(0, kind_number)
 }
@@ -49,8 +49,8 @@ pub fn place_of(kind: Kind) -> Place
     }
 }
 
-pub fn value_place(answer: Result<Kind, Refusal>) -> Place
-    ensures { result ≡ value_place (line_answer_of answer) }
+pub fn value_place<R: Copy>(answer: Result<Kind, R>) -> Place
+    ensures { (number : R → ℕ) → result ≡ value_place (line_answer_by number answer) }
 {
     answer.map_or(Place { offset: 0 }, place_of)
 }
@@ -66,8 +66,8 @@ pub fn length_of(kind: Kind) -> usize
     }
 }
 
-pub fn value_length(answer: Result<Kind, Refusal>) -> usize
-    ensures { result ≡ value_length (line_answer_of answer) }
+pub fn value_length<R: Copy>(answer: Result<Kind, R>) -> usize
+    ensures { (number : R → ℕ) → result ≡ value_length (line_answer_by number answer) }
 {
     answer.map_or(0, length_of)
 }

@@ -21,7 +21,7 @@ const CLASSES: ClassTable =
 const DIGITS: [u8; 16] = *b"0123456789ABCDEF";
 
 // The table of class numbers, lent to all who ask.
-#[derive(Drop)]
+#[derive(Clone, Copy)]
 pub struct Classes {
     pub numbers: ClassTable,
     ghost is_class_table: { numbers ≡ class_table },

@@ -56,11 +56,11 @@ take_zeros : (n : ℕ) → n ≤ 96 → take n zeros ≡ replicate n 0
 unfolding zeros
 take_zeros n h = take_replicate n 96 0 h
 
--- the line that was built
--- as does any line
+-- any line holds what it says, with zeros in front
 pub line_holds : (l : Inside) → ZerosInFront l → length l.octets ≡ 96 → Holds (written l) l
 line_holds l z e = record { octets = refl; zeros = z.1; inside = z.0; size = e }
 
+-- and so does one that was built text by text
 pub built_holds : {n start : ℕ} {text octets : List ℕ} → Built zeros n text start octets → n ≤ 96 → Holds text (record { octets = octets; start = start })
 built_holds {n} {start} {text} {octets} b h =
     let room : length zeros ≡ 96 = length_zeros in

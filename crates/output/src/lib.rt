@@ -7,19 +7,19 @@ pub mod parts; // parts.rt: the lines of the input, one after the other
 
 ghost use Rattle.std.specs.Prelude.{◌≡◌};
 ghost use Rattle.protocol.specs.Refusals.{unless_refused};
-ghost use Rattle.protocol.specs.Outcomes.{refusal_number, decided, decision_of};
+ghost use Rattle.protocol.specs.Outcomes.{decided, decision_of};
 ghost use Rattle.protocol.specs.Program.{refused_text, answer_text};
 
 pub use line::Line;
 use protocol::{Refusal, Verdict};
 
 #[tactic(auto, unfolding(protocol::specs::Program::refused_text, protocol::specs::Text::octets))]
-fn refused_line(refusal: Refusal) -> Line
-    ensures { result ≡ refused_text (refusal_number refusal) }
+pub fn refused_line(number: usize) -> Line
+    ensures { result ≡ refused_text number }
 {
     let mut line = Line::new();
     line.put_text(b"\n");
-    line.put_decimal(refusal.number());
+    line.put_decimal(number);
     line.put_text(b"refused ");
     line
 }
@@ -47,6 +47,6 @@ pub fn answer_line(answer: Result<Verdict, Refusal>) -> Line
 {
     match answer {
         Ok(verdict) => answered_line(verdict),
-        Err(refusal) => refused_line(refusal),
+        Err(refusal) => refused_line(refusal.number()),
     }
 }

@@ -1,11 +1,13 @@
 -- Every refusal has a number, and none has that of an answer. Assumes nothing.
 use Prim.Native.Nat.{ℕ, ◌<◌}
-use mathlib.Core.Path.{◌≡◌, sym}
+use mathlib.Core.Path.{◌≡◌, refl, sym}
 use native.Mathlib.Omega.{arith}
+use Rattle.std.specs.Prelude.{Result, Ok, Err}
 use Rattle.protocol.specs.declared.Dialect.{Dialect}
+use Rattle.protocol.specs.declared.Kind.{Kind}
 use Rattle.protocol.specs.declared.Refusal.{Refusal}
 use Rattle.protocol.specs.Refusals.{dialect_number, dialect_of}
-use Rattle.protocol.specs.Outcomes.{refusal_number}
+use Rattle.protocol.specs.Outcomes.{refusal_number, line_answer_of, line_answer_by}
 
 pub numbered : (r : Refusal) → 0 < refusal_number r
 numbered Refusal.TooLong = omega arith
@@ -30,3 +32,8 @@ pub chosen_dialect : (n : ℕ) (d : Dialect) → dialect_number d ≡ n → d �
 unfolding dialect_of
 chosen_dialect n Dialect.Rfc9309 e = rw (sym e)
 chosen_dialect n Dialect.Draft1996 e = rw (sym e)
+
+-- a line's answer, by the numbers of the table
+pub by_number : (r : Result Kind Refusal) → line_answer_by refusal_number r ≡ line_answer_of r
+by_number (Ok k) = refl
+by_number (Err e) = refl

@@ -62,3 +62,8 @@ normalised_of (Err r) = record { refusal = refusal_number r; written = 0 }
 abbrev pub line_answer_of : Result Kind Refusal → LineAnswer
 line_answer_of (Ok k) = LineAnswer.Kind k
 line_answer_of (Err r) = LineAnswer.Refused (refusal_number r)
+
+-- the same of refusals that any numbers tell
+abbrev pub line_answer_by : {E : Type 0} → (E → ℕ) → Result Kind E → LineAnswer
+line_answer_by number (Ok k) = LineAnswer.Kind k
+line_answer_by number (Err e) = LineAnswer.Refused (number e)

@@ -65,18 +65,21 @@ impl Due {
         }
     }
 
-    // After one octet more.
+    // After one octet more. Test by test, with returns: else the compiler makes no branches, and each octet waits for the one before it.
     #[tactic(auto, using(protocol::proofs::Classes::due_told, crate::proofs::Characters::past_none, crate::proofs::Characters::past_some, std::proofs::lemmas::Bool::Decides::nat_tests))]
     fn past(self, classes: &Classes, x: u8) -> Due
         ensures { due_ranges result ≡ due_past (due_ranges self) x }
     {
         if self.more == 0 {
-            Due::after(classes.class_of(x))
-        } else if (self.low..=self.high).contains(&x) {
-            Due::new(0x80, 0xBF, self.more - 1)
-        } else {
-            Due::NEVER
+            return Due::after(classes.class_of(x));
         }
+        if x < self.low {
+            return Due::NEVER;
+        }
+        if self.high < x {
+            return Due::NEVER;
+        }
+        Due::new(0x80, 0xBF, self.more - 1)
     }
 }
 

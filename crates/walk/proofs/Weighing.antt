@@ -52,19 +52,19 @@ module _ (d : Dialect) (pattern path : List ℕ) where
       unfolding weigh_scratch
       scratch_whole e = rw (le-ltb (length path) (length (up_to not_literal pattern)) h, all_literal pattern e)
 
-      scratch_walked : (length (up_to not_literal pattern) ≡ length pattern → ⊥) → scratch_in d pattern path scratch ≡ weigh_scratch d pattern path scratch
+      pub scratch_walked : all literal pattern ≡ false → scratch_in d pattern path scratch ≡ weigh_scratch d pattern path scratch
       unfolding weigh_scratch
-      scratch_walked e = rw (le-ltb (length path) (length (up_to not_literal pattern)) h, some_other pattern e)
+      scratch_walked e = rw (le-ltb (length path) (length (up_to not_literal pattern)) h, e)
 
       pub scratch_starred : (length (up_to not_literal pattern) ≡ length pattern → ⊥) → d ≡ Dialect.Rfc9309
           → walk_scratch pattern path scratch ≡ weigh_scratch d pattern path scratch
       unfolding scratch_in
-      scratch_starred e f = ap (λ (x : Dialect). scratch_in x pattern path scratch) (sym f) ∙ scratch_walked e
+      scratch_starred e f = ap (λ (x : Dialect). scratch_in x pattern path scratch) (sym f) ∙ scratch_walked (some_other pattern e)
 
       pub scratch_plain : (length (up_to not_literal pattern) ≡ length pattern → ⊥) → d ≡ Dialect.Draft1996
           → run_scratch false pattern scratch ≡ weigh_scratch d pattern path scratch
       unfolding scratch_in
-      scratch_plain e f = ap (λ (x : Dialect). scratch_in x pattern path scratch) (sym f) ∙ scratch_walked e
+      scratch_plain e f = ap (λ (x : Dialect). scratch_in x pattern path scratch) (sym f) ∙ scratch_walked (some_other pattern e)
 
 -- one run: where it stands, it covers as much of the path as it weighs
 placed_covers : (n : ℕ) (x : Tried) → (placed n 0 x).stood ≡ true → (placed n 0 x).past ≡ n

@@ -10,7 +10,7 @@ use Rattle.readable.specs.Due.{ordinary, unusual}
 use Rattle.fields.specs.Fields.{ended}
 use Rattle.kinds.specs.Entries.{value_front}
 use Rattle.kinds.proofs.Fronts.{value_read, value_fits}
-use Rattle.kinds.proofs.Values.{ended_solid, ordinary_told, value_ordinary, value_behind}
+use Rattle.kinds.proofs.Values.{ended_solid, ordinary_told, value_ordinary, value_behind, value_spaces}
 use Rattle.kinds.proofs.entry.value_in.Goals as goal
 
 module _ (s : List ℕ) (n : ℕ) (k : n ≡ length (up_to unusual s)) where
@@ -44,15 +44,26 @@ module _ (s : List ℕ) (n : ℕ) (k : n ≡ length (up_to unusual s)) where
   whole-usual : ended (from solid (from unusual s)) ≡ true → true ≡ all ordinary (take n s)
   whole-usual e = usual-known true (take n s) (whole e) e
 
-  module _ (m : ℕ) (told : m ≡ length (trim_end (up_to stop rest))) where
-    part-size : n + m ≡ length (value_front s)
-    part-size = omega (arith, told, ap (λ (l : List ℕ). length (trim_end (up_to stop l))) (rest_of n s ∙ rest-known), k, value_behind s)
+  -- spaces and tabs behind them, and what stands behind those, which isn't ended
+  module _ (spaces : ℕ) (e : spaces ≡ lead rest) (other : ended (drop (n + spaces) s) ≡ false) where
+    unended : ended (from solid (from unusual s)) ≡ false
+    unended = ended-behind spaces false e other
 
-    part-in : n + m ≤ length s
-    part-in = omega (arith, part-size, value_fits s)
+    module _ (m : ℕ) (told : m ≡ length (trim_end (up_to stop (take (length s - (n + spaces)) (drop (n + spaces) s))))) where
+      last-size : m ≡ length (trim_end (up_to stop (from solid (from unusual s))))
+      last-size = told ∙ ap (λ (l : List ℕ). length (trim_end (up_to stop l))) (rest_of (n + spaces) s ∙ behind spaces (e ∙ ap lead (rest_of n s)))
 
-    part : take (n + m) s ≡ value_front s
-    part = ap (λ (i : ℕ). take i s) part-size ∙ value_read s
+      spaces-known : spaces ≡ lead (from unusual s)
+      spaces-known = e ∙ ap lead (rest_of n s ∙ rest-known)
+
+      part-size : n + spaces + m ≡ length (value_front s)
+      part-size = omega (arith, last-size, spaces-known, value_spaces (from unusual s) unended, k, value_behind s)
+
+      part-in : n + spaces + m ≤ length s
+      part-in = omega (arith, part-size, value_fits s)
+
+      part : take (n + spaces + m) s ≡ value_front s
+      part = ap (λ (i : ℕ). take i s) part-size ∙ value_read s
 
 pub slice_bounds-result-end : goal.slice_bounds-result-end
 slice_bounds-result-end c = sym (length-take-le _ _ (omega (arith, c.ordinary_words-n.ensures, up_to_fits unusual c.args.s.now)))
@@ -91,21 +102,37 @@ returns-then-ends_at-2 c =
     let k = c.ordinary_words-n.ensures in
     whole s n k (ended-behind s n k c.lead.result true c.lead.ensures (sym c.ends_at-2.ensures ∙ c.if-ends_at-2.true))
 
+-- the value that goes on behind spaces and tabs
+module _ (c : goal.After-value_length) where
+  abbrev text : List ℕ
+  text = c.args.s.now
+
+  abbrev front : ℕ
+  front = c.ordinary_words-n.result
+
+  other : ended (drop (front + c.lead.result) text) ≡ false
+  other = sym c.ends_at-2.ensures ∙ c.if-ends_at-2.false
+
+  size-in : front + c.lead.result + c.value_length.result ≤ length text
+  size-in = part-in text front c.ordinary_words-n.ensures c.lead.result c.lead.ensures other c.value_length.result c.value_length.ensures
+
+  read : take (front + c.lead.result + c.value_length.result) text ≡ value_front text
+  read = part text front c.ordinary_words-n.ensures c.lead.result c.lead.ensures other c.value_length.result c.value_length.ensures
+
 pub overflow_add-all : goal.overflow_add-all
-overflow_add-all c =
-    omega (arith, part-in c.args.s.now c.ordinary_words-n.result c.ordinary_words-n.ensures c.value_length.result c.value_length.ensures)
+overflow_add-all c = omega (arith, size-in c)
 
 pub slice_bounds-result-end-2 : goal.slice_bounds-result-end-2
-slice_bounds-result-end-2 c =
-    sym (length-take-le _ _ (part-in c.args.s.now c.ordinary_words-n.result c.ordinary_words-n.ensures c.value_length.result c.value_length.ensures))
+slice_bounds-result-end-2 c = sym (length-take-le _ _ (size-in c))
 
 pub invariant_of-result-2 : goal.invariant_of-result-2
 invariant_of-result-2 c =
     let s = c.args.s.now in
     let n = c.ordinary_words-n.result in
     let k = c.ordinary_words-n.ensures in
-    let other = ended-behind s n k c.lead.result false c.lead.ensures (sym c.ends_at-2.ensures ∙ c.if-ends_at-2.false) in
-    record { told = usual-known s n k false _ (part s n k c.value_length.result c.value_length.ensures) other }
+    record { told = usual-known s n k false _ (read c) (unended s n k c.lead.result c.lead.ensures (other c)) }
 
 pub returns : goal.returns
-returns c = part c.args.s.now c.ordinary_words-n.result c.ordinary_words-n.ensures c.value_length.result c.value_length.ensures
+returns c =
+    part c.args.s.now c.ordinary_words-n.result c.ordinary_words-n.ensures c.lead.result c.lead.ensures
+    (sym c.ends_at-2.ensures ∙ c.if-ends_at-2.false) c.value_length.result c.value_length.ensures
