@@ -56,6 +56,10 @@ well_formed_past (r ∷ due) x l = split (holds r x) (λ e. rw e) (λ e. rw e (s
 pub well_formed_on : (due : List Range) (l : List ℕ) (i : ℕ) → i < length l → well_formed (due_past due (get_or l i 0)) (drop (i + 1) l) ≡ well_formed due (drop i l)
 well_formed_on due l i h = sym (ap (well_formed due) (drop_one l i 0 h) ∙ well_formed_past due (get_or l i 0) (drop (i + 1) l))
 
+-- and where no octet makes it whole
+pub well_formed_never : (due : List Range) (l : List ℕ) (i : ℕ) → i < length l → never ∷ [] ≡ due_past due (get_or l i 0) → well_formed due (drop i l) ≡ false
+well_formed_never due l i h e = sym (well_formed_on due l i h) ∙ ap (λ (d : List Range). well_formed d (drop (i + 1) l)) (sym e) ∙ never_false (drop (i + 1) l)
+
 -- at the end of a text nothing may be due
 pub well_formed_end : (low high n i : ℕ) (l : List ℕ) → length l ≤ i → well_formed (ranges low high n) (drop i l) ≡ eqb n 0
 unfolding well_formed

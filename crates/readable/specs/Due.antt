@@ -1,5 +1,5 @@
 -- What the octets that are due have to be, and the octets that leave nothing due. Assumes nothing.
-use Rattle.std.specs.Prelude.{ℕ, zero, suc, Bool, not, List, [], ◌∷◌, replicate, if◌then◌else◌}
+use Rattle.std.specs.Prelude.{ℕ, zero, suc, Bool, not, Option, None, Some, List, [], ◌∷◌, replicate, if◌then◌else◌}
 use Rattle.protocol.specs.Octets.{within}
 use Rattle.protocol.specs.Readable.{Range, ◌to◌, holds, utf8_tail, never, character_forms, due_after}
 use Rattle.readable.specs.declared.Due.{Due}
@@ -11,6 +11,11 @@ ranges low high (suc n) = (low to high) ∷ replicate n utf8_tail
 
 abbrev pub due_ranges : Due → List Range
 due_ranges d = ranges d.low d.high d.more
+
+-- none stands for what no octet makes whole
+abbrev pub due_or_never : Option Due → List Range
+due_or_never None = never ∷ []
+due_or_never (Some d) = due_ranges d
 
 -- what is due after one octet more
 unfoldable pub due_past : List Range → ℕ → List Range

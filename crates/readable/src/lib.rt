@@ -11,13 +11,13 @@ ghost use Rattle.protocol.specs.Readable.{everyone, name_front, readable_agent, 
 ghost use Rattle.protocol.specs.Classes.{class_forms, due_up_to};
 ghost use Rattle.protocol.specs.Refusals.{unknown_dialect, too_long, bad_name, refusal, dialect_of};
 ghost use Rattle.protocol.specs.Outcomes.{number_of};
-ghost use Rattle.readable.specs.Due.{due_ranges, due_past, unusual};
+ghost use Rattle.readable.specs.Due.{due_ranges, due_or_never, due_past, unusual};
 
 use octets::Classes;
 use protocol::{Dialect, Place, Refusal, Sort};
 
-// The octets that a character still lacks: `more` of them, the next from `low` to `high`, those behind it UTF8-tails. One form for none and never too:
-// `due_ranges` reads the numbers as a list of ranges, and an enum would only give `past` two arms more.
+// The octets that a character still lacks: `more` of them, the next from `low` to `high`, those behind it UTF8-tails. One form for none too: `due_ranges`
+// reads the numbers as a list of ranges, and an enum would only give `past` an arm more.
 #[derive(Clone, Copy)]
 struct Due {
     low: u8,
@@ -33,13 +33,6 @@ impl Due {
         more: 0,
     };
 
-    // No octet is from 1 to 0: nothing makes it whole.
-    const NEVER: Due = Due {
-        low: 1,
-        high: 0,
-        more: 1,
-    };
-
     // The next octet is from `low` to `high`, and `more` in all are due.
     fn new(low: u8, high: u8, more: usize) -> Due
         ensures { result ≡ record { low = low; high = high; more = more } }
@@ -47,12 +40,12 @@ impl Due {
         Due { low, high, more }
     }
 
-    // After the first octet of a character, by its class number: RFC 9309's UTF8-char-noctl.
+    // After the first octet of a character, by its class number: RFC 9309's UTF8-char-noctl. None where no octet makes it whole.
     #[tactic(auto, using(std::proofs::lemmas::Bool::Decides::nat_tests), unfolding(protocol::specs::Classes::class_forms, protocol::specs::Classes::due_up_to))]
-    fn after(class: u8) -> Due
-        ensures { due_ranges result ≡ due_up_to class class_forms }
+    fn after(class: u8) -> Option<Due>
+        ensures { due_or_never result ≡ due_up_to class class_forms }
     {
-        match class {
+        let due = match class {
             0..=66 | 226 => Due::NONE,
             67..=96 => Due::new(0x80, 0xBF, 1),
             97 => Due::new(0xA0, 0xBF, 2),
@@ -61,25 +54,26 @@ impl Due {
             113 => Due::new(0x90, 0xBF, 3),
             114..=116 => Due::new(0x80, 0xBF, 3),
             117 => Due::new(0x80, 0x8F, 3),
-            _ => Due::NEVER,
-        }
+            _ => return None,
+        };
+        Some(due)
     }
 
     // After one octet more. Test by test, with returns: else the compiler makes no branches, and each octet waits for the one before it.
     #[tactic(auto, using(protocol::proofs::Classes::due_told, crate::proofs::Characters::past_none, crate::proofs::Characters::past_some, std::proofs::lemmas::Bool::Decides::nat_tests))]
-    fn past(self, classes: &Classes, x: u8) -> Due
-        ensures { due_ranges result ≡ due_past (due_ranges self) x }
+    fn past(self, classes: &Classes, x: u8) -> Option<Due>
+        ensures { due_or_never result ≡ due_past (due_ranges self) x }
     {
         if self.more == 0 {
             return Due::after(classes.class_of(x));
         }
         if x < self.low {
-            return Due::NEVER;
+            return None;
         }
         if self.high < x {
-            return Due::NEVER;
+            return None;
         }
-        Due::new(0x80, 0xBF, self.more - 1)
+        Some(Due::new(0x80, 0xBF, self.more - 1))
     }
 }
 
@@ -90,8 +84,8 @@ pub fn ordinary_front(s: &[u8]) -> usize
     text::seek(s, Place { offset: 0 }, 0x24, 0x7F, false).offset
 }
 
-// Whole characters only. The table is copied only for a text with other octets than the ordinary ones.
-#[tactic(auto, using(crate::proofs::Characters::well_formed_ordinary, crate::proofs::Characters::well_formed_front, crate::proofs::Characters::well_formed_on, crate::proofs::Characters::well_formed_end, lists::proofs::Scans::rest_of, lists::proofs::Scans::up_to_fits))]
+// Whole characters only, up to the first octet that nothing makes whole. The table is copied only for a text with other octets than the ordinary ones.
+#[tactic(auto, using(crate::proofs::Characters::well_formed_ordinary, crate::proofs::Characters::well_formed_front, crate::proofs::Characters::well_formed_on, crate::proofs::Characters::well_formed_never, crate::proofs::Characters::well_formed_end, lists::proofs::Scans::rest_of, lists::proofs::Scans::up_to_fits))]
 fn well_formed(s: &[u8]) -> bool
     ensures { result ≡ well_formed [] s.now }
 {
@@ -102,7 +96,10 @@ fn well_formed(s: &[u8]) -> bool
     let classes = Classes::new();
     let mut due = Due::NONE;
     for x in &s[front..] {
-        due = due.past(&classes, *x);
+        let Some(next) = due.past(&classes, *x) else {
+            return false;
+        };
+        due = next;
     }
     due.more == 0
 }
