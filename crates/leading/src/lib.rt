@@ -4,11 +4,12 @@
 #![tactic(auto)]
 
 ghost use Rattle.std.specs.Prelude.{◌≡◌, false, ◌+◌, ◌≤◌, ◌<◌, ◌^◌, length};
+ghost use Rattle.protocol.specs.Answers.{side_number};
 ghost use Rattle.walk.specs.Weights.{weighed};
 ghost use Rattle.tables.specs.Tables.{front_of, rules_of, SoundKept};
 ghost use Rattle.leading.specs.Leading.{outdoes, settled, led, led_all, whole_weight, Room};
 
-use protocol::{Dialect, LineNumber};
+use protocol::{Dialect, LineNumber, Rule};
 use tables::Kept;
 
 // The rule that leads so far: its weight, its side and its line, numbers as the memory lent for the answers holds them between two rounds
@@ -21,16 +22,16 @@ pub struct Leader {
 }
 
 impl Leader {
-    // A rule of that weight and side leads from now on: allow before disallow at equal weight. By steps: as one expression the compiler works out both
-    // tests at each rule.
-    fn is_outdone(self, weight: usize, side: usize) -> bool
-        ensures { result ≡ outdoes weight side self }
+    // A rule of that weight leads from now on: allow before disallow at equal weight. By steps: as one expression the compiler works out all tests at
+    // each rule. The rule's side is read last, since it is seldom asked for: nothing outdoes a leader of its weight that allows, or is all zeros.
+    fn is_outdone(self, weight: usize, rule: &Rule) -> bool
+        ensures { result ≡ outdoes weight (side_number rule.now.side) self }
     {
         if self.weight < weight {
             return true;
         }
-        if self.weight == weight {
-            return side < self.side;
+        if self.weight == weight && 0 < self.side {
+            return usize::from(rule.side) < self.side;
         }
         false
     }
@@ -107,12 +108,11 @@ fn lead(
 {
     let pattern = considering::pattern_of(file, kept.rule);
     let weight = weigh_from(dialect, kept.front, pattern, path, scratch);
-    let side = usize::from(kept.rule.side);
-    if leader.is_outdone(weight, side) {
-        // The line is read here alone, since few rules lead.
+    if leader.is_outdone(weight, &kept.rule) {
+        // Side and line are read here alone, since few rules lead.
         Leader {
             weight,
-            side,
+            side: usize::from(kept.rule.side),
             line: kept.rule.line,
         }
     } else {

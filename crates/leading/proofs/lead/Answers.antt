@@ -18,11 +18,11 @@ pub returns-then-is_outdone-clause-value : goal.returns-then-is_outdone-clause-v
 returns-then-is_outdone-clause-value c =
     let a = c.args in
     let weight = c.weigh_from-weight.ensures.value ∙ ap (λ (p : List ℕ). (weighed a.dialect p a.path.now).weight) c.pattern_of-pattern.ensures in
-    rw c.from-side.ensures
-    (led_taken a.dialect a.file.now a.path.now a.leader a.kept.now.rule _ weight c.requires.unsettled (rw c.from-side.ensures at (sym c.is_outdone.ensures ∙ c.if-is_outdone.true)))
+    rw c.from.ensures
+    (led_taken a.dialect a.file.now a.path.now a.leader a.kept.now.rule _ weight c.requires.unsettled (sym c.is_outdone.ensures ∙ c.if-is_outdone.true))
 
 pub returns-else-is_outdone-clause-value : goal.returns-else-is_outdone-clause-value
 returns-else-is_outdone-clause-value c =
     let a = c.args in
     let weight = c.weigh_from-weight.ensures.value ∙ ap (λ (p : List ℕ). (weighed a.dialect p a.path.now).weight) c.pattern_of-pattern.ensures in
-    led_passed a.dialect a.file.now a.path.now a.leader a.kept.now.rule _ weight c.requires.unsettled (rw c.from-side.ensures at (sym c.is_outdone.ensures ∙ c.if-is_outdone.false))
+    led_passed a.dialect a.file.now a.path.now a.leader a.kept.now.rule _ weight c.requires.unsettled (sym c.is_outdone.ensures ∙ c.if-is_outdone.false)
