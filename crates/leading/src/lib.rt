@@ -22,18 +22,13 @@ pub struct Leader {
 }
 
 impl Leader {
-    // A rule of that weight leads from now on: allow before disallow at equal weight. By steps: as one expression the compiler works out all tests at
-    // each rule. The rule's side is read last, since it is seldom asked for: nothing outdoes a leader of its weight that allows, or is all zeros.
+    // A rule of that weight leads from now on: allow before disallow at equal weight. Its side is read last, since it is seldom asked for: no rule of
+    // a leader's weight outdoes one that allows, or that is all zeros.
     fn is_outdone(self, weight: usize, rule: &Rule) -> bool
         ensures { result ≡ outdoes weight (side_number rule.now.side) self }
     {
-        if self.weight < weight {
-            return true;
-        }
-        if self.weight == weight && 0 < self.side {
-            return usize::from(rule.side) < self.side;
-        }
-        false
+        self.weight < weight
+            || self.weight == weight && 0 < self.side && usize::from(rule.side) < self.side
     }
 
     // No further rule is walked.
@@ -109,7 +104,7 @@ fn lead(
     let pattern = considering::pattern_of(file, kept.rule);
     let weight = weigh_from(dialect, kept.front, pattern, path, scratch);
     if leader.is_outdone(weight, &kept.rule) {
-        // Side and line are read here alone, since few rules lead.
+        // The line is read here alone, since few rules lead.
         Leader {
             weight,
             side: usize::from(kept.rule.side),
